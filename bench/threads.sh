@@ -48,9 +48,18 @@ syncs() {
     strace -f -o "$room/calls" -e trace=fsync,fdatasync "$program" run --dir "$room/node" <"$room/script.tmf" >"$room/out" || exit 1
     grep -c -E '(^| )(fsync|fdatasync)\(' "$room/calls"
 }
+# How often a program syncs that only appends the same records, with as many threads.
+appends() {
+    rm -rf -- "$room/floor.dir"
+    mkdir -- "$room/floor.dir"
+    strace -f -o /dev/null -e trace=fsync,fdatasync "$room/floor" "$1" "$2" "$room/floor.dir"
+}
+command -v gcc >/dev/null && gcc -O2 -pthread -o "$room/floor" "$root/bench/floor.c"
+each() { awk -v syncs="$1" -v commits="$2" 'BEGIN { printf "%.2f", syncs / commits }'; }
 for workers in 4 16; do
     few=$(syncs "$workers" 10)
     more=$(syncs "$workers" 60)
-    row "syncs of a commit over a folder, $workers workers" "$(awk -v few="$few" -v more="$more" -v n="$workers" 'BEGIN { printf "%.2f", (more - few) / (50 * n) }')" \
-        "$([ "$workers" -eq 4 ] && echo 5.6 || echo 1.8) of a program that only appends and syncs the same records, with as many workers"
+    beside="gcc is not on the PATH"
+    [ ! -x "$room/floor" ] || beside="$(each "$(appends "$workers" 50)" $((50 * workers))) of a program of C that only appends and syncs the same records, with as many threads, in the same run"
+    row "syncs of a commit over a folder, $workers workers" "$(each $((more - few)) $((50 * workers)))" "$beside"
 done

@@ -11,13 +11,14 @@ use audit_writer::DeviceRun;
 use disc_process::DiscState;
 use disk_model::Disk;
 use std::sync::ledger::Share;
-use std::sync::{Mutex, Wait};
+use std::sync::{Mutex, MutexGuard, Wait};
 
-/// A disc under a lock. It shows the number of its volume.
+/// A disc under a lock. It shows the number of its volume. Beside it stands the turn of who lands its audit for a commit.
 #[derive(Drop)]
 pub struct DiscProcess<'a, D: Disk, J: DeviceRun<D>> {
     number: u8,
     lock: Mutex<DiscAt<'a, D, J>>,
+    landing: Mutex<()>,
     ghost small: { (1 ≤ number) × (number ≤ 8) },
 }
 
@@ -34,7 +35,8 @@ impl<'a, D: Disk, J: DeviceRun<D>> DiscProcess<'a, D, J> {
         ensures { number_of result ≡ number }
     {
         let lock = Mutex::new(DiscAt::of(state, share));
-        DiscProcess { number, lock }
+        let landing = Mutex::new(());
+        DiscProcess { number, lock, landing }
     }
 
     /// The number of its volume.
@@ -42,6 +44,12 @@ impl<'a, D: Disk, J: DeviceRun<D>> DiscProcess<'a, D, J> {
         ensures { result ≡ number_of self.now }
     {
         self.number
+    }
+
+    /// Takes the turn of landing the disc's audit for a commit. Who closes a transaction here within its turn lands the audit of all that wait
+    /// behind it, and these then find theirs landed. Nobody who holds the disc's lock waits for it.
+    pub fn landing<'g, R: Wait>(&'g self, rt: &R) -> MutexGuard<'g, ()> {
+        self.landing.lock(rt)
     }
 
     /// Takes the lock, for the calls of one hold.
@@ -64,7 +72,11 @@ impl<'a, D: Disk, J: DeviceRun<D>> DiscProcess<'a, D, J> {
         ensures disc { IsDiscOf J.found (number_of self.entry) result.0 }
         ensures counted { IsCounted result.1 result.0.seat }
     {
-        let DiscProcess { number, lock } = self;
+        let DiscProcess {
+            number,
+            lock,
+            landing: _,
+        } = self;
         let disc = lock.into_inner();
         if disc.number() == number {
             return disc.into_parts();

@@ -3,6 +3,7 @@ ghost use Rattle.std.specs.Prelude.{◌≡◌, ◌<◌, length, None};
 ghost use Rattle.disc_process.specs.Disc.{AreTrails};
 
 use crate::drawing::{Stopped, draw_first};
+use crate::pace::Pace;
 use audit_writer::{AuditWriter, DeviceRun};
 use chronicle::{Run, Seat};
 use disc_lock::DiscProcess;
@@ -47,20 +48,25 @@ impl<J: Run<Part>> DiscHand<J> {
         self.place
     }
 
-    /// Takes one turn at the disc, in one hold of its lock.
-    fn draw_one<'a, R: Wait, D: Disk>(
+    /// Takes one turn at the disc, in one hold of its lock: it draws the first block that is to be drawn, where it is time to.
+    fn take_turn<'a, R: Wait, D: Disk>(
         &mut self,
         rt: &R,
+        pace: &mut Pace,
         disc: &DiscProcess<'a, D, J>,
         trails: &[AuditWriter<'a, D, J>],
-    ) -> Result<bool, Stopped>
+    ) -> Result<(), Stopped>
     where
         J: DeviceRun<D>,
         requires { AreTrails (J.found).config trails.now }
         ensures { self.new ≡ self.old }
     {
         let mut held = disc.lock(rt);
-        draw_first(rt, &mut held, disc.number(), trails, &mut self.note)
+        if pace.is_due(held.events()) {
+            let _was_one = draw_first(rt, &mut held, disc.number(), trails, &mut self.note)?;
+            pace.drawn(held.events());
+        }
+        Ok(())
     }
 
     /// Takes one turn after the other at its disc, until so many workers have ended, or a turn is refused. Between two turns others may go on.
@@ -79,11 +85,12 @@ impl<J: Run<Part>> DiscHand<J> {
         ensures place { self.new ≡ self.old }
     {
         let disc = &discs[self.place];
+        let mut pace = Pace::default();
         for _ in rt.forever() {
             if ended.load(Ordering::SeqCst) >= workers {
                 return;
             }
-            if self.draw_one(rt, disc, trails).is_err() {
+            if self.take_turn(rt, &mut pace, disc, trails).is_err() {
                 return;
             }
             thread::yield_now();

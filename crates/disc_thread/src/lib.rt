@@ -4,6 +4,7 @@
 mod drawing;
 mod hand;
 mod limits;
+mod pace;
 
 pub use drawing::{Stopped, draw_first};
 pub use hand::DiscHand;

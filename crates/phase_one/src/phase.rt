@@ -63,7 +63,7 @@ fn disc_at<'b, 'a, D: Disk, J: DeviceRun<D>>(
     }
 }
 
-/// Phase one at one disc. The disc's lock is held while the transaction closes, and not while its audit lands.
+/// Phase one at one disc, in its turn of landing. The disc's lock is held while the transaction closes, and not while its audit lands.
 fn flush_at<'a, R: Wait, D: Disk, J: DeviceRun<D>>(
     rt: &R,
     tx: &mut Ending<'a, J>,
@@ -79,6 +79,7 @@ fn flush_at<'a, R: Wait, D: Disk, J: DeviceRun<D>>(
     ensures txn { HasStepped J.opening tx.old [] tx.new }
 {
     let disc = disc_at(discs, number);
+    let _turn = disc.landing(rt);
     let mut handover = close_at(rt, tx, disc)?;
     if let Err(refused) = land(rt, &mut handover, tx, trails) {
         return Err(refused);

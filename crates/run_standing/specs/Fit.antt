@@ -1,4 +1,4 @@
--- What keeps no run from beginning.
+-- Which devices keep no run from beginning for what they hold.
 use Rattle.std.specs.Prelude.{ℕ, List}
 use Rattle.disk_model.specs.Devices.{held_at}
 use Rattle.disk_model.specs.declared.disk.Disk as disk

@@ -18,7 +18,7 @@ pub fn stands_law<D: Disk>()
     reads_law();
 }
 
-/// No device of a node that is up keeps a run from beginning which names no lost volume.
+/// No device of a node that is up is unfit, by what it holds, for a run which names no lost volume.
 pub fn undamaged_law<D: Disk>()
     ensures { UndamagedLaw D.Disk }
 {

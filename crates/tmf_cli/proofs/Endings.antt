@@ -248,13 +248,13 @@ opens-knows held script devices candidates opens = record { stands = opens.stand
 -- how a script ended that was not read
 pub tells-unread : {D : Type 0} (held : D → Held) (faults : D → ℕ) (of_script : Script) (candidates : Option (List Candidate)) (devices : List (Fuse D)) (sink : Type 0) (before after : List ℕ) (how : Status) (source source_now : ℕ) → IsUnreadCaused how source source_now
     → how ≢ status.Refused → (sink → after ≡ before) → Tells held faults of_script candidates how devices devices sink before after
-tells-unread held faults of_script candidates devices sink before after status.Done source source_now cause built same = absurd cause
-tells-unread held faults of_script candidates devices sink before after status.Usage source source_now cause built same = absurd cause
-tells-unread held faults of_script candidates devices sink before after status.NoMemory source source_now cause built same = inl (refl, same)
-tells-unread held faults of_script candidates devices sink before after status.SourceFailed source source_now cause built same = (refl, same)
-tells-unread held faults of_script candidates devices sink before after status.SinkFailed source source_now cause built same = absurd cause
-tells-unread held faults of_script candidates devices sink before after status.Refused source source_now cause built same = absurd (built refl)
-tells-unread held faults of_script candidates devices sink before after status.Stopped source source_now cause built same = absurd cause
+tells-unread held faults of_script candidates devices sink before after status.Done source source_now cause unrefused same = absurd cause
+tells-unread held faults of_script candidates devices sink before after status.Usage source source_now cause unrefused same = absurd cause
+tells-unread held faults of_script candidates devices sink before after status.NoMemory source source_now cause unrefused same = inl (refl, same)
+tells-unread held faults of_script candidates devices sink before after status.SourceFailed source source_now cause unrefused same = (refl, same)
+tells-unread held faults of_script candidates devices sink before after status.SinkFailed source source_now cause unrefused same = absurd cause
+tells-unread held faults of_script candidates devices sink before after status.Refused source source_now cause unrefused same = absurd (unrefused refl)
+tells-unread held faults of_script candidates devices sink before after status.Stopped source source_now cause unrefused same = absurd cause
 
 -- no status of a script that was not read is one of those that come of carrying it out
 pub unread-unplayed : (how : Status) (source source_now : ℕ) → IsUnreadCaused how source source_now → (how ≡ status.Done) ⊎ (how ≡ status.SinkFailed) ⊎ (how ≡ status.Stopped) → ⊥

@@ -41,8 +41,13 @@ use Rattle.tmf_lines.specs.Report.{listed_lines, lost_lines, part_name, recorded
 use Rattle.tmf_lines.specs.declared.line.PartName.{PartName}
 use Rattle.tmf_lines.specs.declared.line.PartName.TheVariants.{Device, Worker}
 use Rattle.tmf_cli.specs.declared.node.Up.{Up}
-use Rattle.tmf_cli.specs.Faultless.{AreFaultless, FaultlessLaw, IsFaultless, IsKnown}
-use Rattle.tmf_cli.specs.OneOutput.{NoneRose}
+use Rattle.tmf_model.specs.declared.script.Script.{Script}
+use Rattle.tmf_cli.specs.declared.status.Status.{Status}
+use Rattle.tmf_cli.specs.declared.status.Status.TheVariants as status
+use Rattle.tmf_cli.specs.Ending.{EndsWhole, opening}
+use Rattle.tmf_cli.specs.Faultless.{AreFaultless, FaultlessLaw, IsFaultless, IsFaultlessOutput, IsKnown}
+use Rattle.tmf_cli.specs.OneOutput.{FormatsFirst, NoneRose}
+use Rattle.tmf_cli.specs.Top.{Tells}
 use Rattle.tmf_cli.specs.Outcomes.{end_lines, outcome_lines, read_line, read_lines}
 use Rattle.tmf_cli.specs.OutputLaw.{AllItemsDone, Candidate, Does, Formats, IsRecoveryLine, IsRefusedFor, IsRollLine, IsUnrolledFor, IsUnrunFor, Lists, Loses, Node, OneGoesOn, OneIsLeft, Recovers, Rolls, Runs, RunsOnThreads, ToldBy, after_loss, after_roll, after_stop, unrolled_node}
 use Rattle.tmf_cli.specs.RunLines.{run_lines, told_lines}
@@ -265,3 +270,15 @@ module _ {D : Type 0} (held : D → Held) (faults : D → ℕ) (config : Config)
   faultless actions before after old new lines count (inl known) told quiet = faultless-lines actions before after old new lines count known told quiet
   faultless actions before after old new lines count (inr (rest, is)) told quiet =
       faultless-format rest before after old new lines count (subst (λ a. ToldBy held faults config a before old lines after new) is told) quiet
+
+-- so are the lines of a script that was carried out to its end
+pub the_faultless : {D : Type 0} (held : D → Held) (faults : D → ℕ) (script : Script) (candidates : Option (List Candidate)) (old new : List (Fuse D)) (sink : Type 0) (before after : List ℕ) → sink → length old ≡ devices
+    → IsKnown candidates ⊎ FormatsFirst script → NoneRose faults old new → (how : Status) → how ≡ status.Done → Tells held faults script candidates how old new sink before after → IsFaultlessOutput before after
+the_faultless held faults script candidates old new sink before after tells count known none how done told = record {
+  lines = whole.lines;
+  given = whole.given tells;
+  all = faultless held faults script.config script.actions (opening candidates) whole.left old new whole.lines count known whole.told none;
+}
+  where
+    whole : EndsWhole held faults script.config (opening candidates) script.actions old new sink before after
+    whole = subst (λ s. Tells held faults script candidates s old new sink before after) done told

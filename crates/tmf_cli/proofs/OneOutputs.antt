@@ -485,9 +485,9 @@ the_output held faults script old new sink before after tells (rest, first) sing
     whole = subst (λ s. Tells held faults script None s old new sink before after) done told
 
 -- of a script whose actions are all told no count of faults falls
-pub whole-falls : {D : Type 0} (held : D → Held) (faults : D → ℕ) (script : Script) (old new : List (Fuse D)) (sink : Type 0) (before after : List ℕ) (how : Status) → how ≡ status.Done
-    → Tells held faults script None how old new sink before after → NoneFalls faults old new
-whole-falls held faults script old new sink before after how done told = told-falls held faults script.config script.actions (opening None) whole.left old new whole.lines whole.told
+pub whole-falls : {D : Type 0} (held : D → Held) (faults : D → ℕ) (script : Script) (candidates : Option (List Candidate)) (old new : List (Fuse D)) (sink : Type 0) (before after : List ℕ) (how : Status) → how ≡ status.Done
+    → Tells held faults script candidates how old new sink before after → NoneFalls faults old new
+whole-falls held faults script candidates old new sink before after how done told = told-falls held faults script.config script.actions (opening candidates) whole.left old new whole.lines whole.told
   where
-    whole : EndsWhole held faults script.config (opening None) script.actions old new sink before after
-    whole = subst (λ s. Tells held faults script None s old new sink before after) done told
+    whole : EndsWhole held faults script.config (opening candidates) script.actions old new sink before after
+    whole = subst (λ s. Tells held faults script candidates s old new sink before after) done told

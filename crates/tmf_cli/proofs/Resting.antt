@@ -34,7 +34,7 @@ use Rattle.one_worker.specs.RunLaw.{IsOfNode, IsUp, KeepsNode, TrailsRest}
 use Rattle.one_worker.proofs.Files.{volume_on-line}
 use Rattle.one_worker.proofs.Up.{LoweredLaw}
 use Rattle.tmf_cli.specs.declared.node.Up.{Up}
-use Rattle.tmf_cli.specs.BetweenActions.{HasSmallPlace, IsReady, RestsUp, SameOthers}
+use Rattle.tmf_cli.specs.BetweenActions.{IsBounded, IsReady, RestsUp, SameOthers}
 use Rattle.tmf_cli.specs.Lost.{AreLost, lost_flags, names_lost, unless}
 use Rattle.tmf_cli.specs.OutputLaw.{Candidate}
 use Rattle.tmf_cli.proofs.Bays.{held-is}
@@ -165,8 +165,8 @@ pub list-others : {D : Type 0} (config : Config) (file : ℕ) (old new : List (F
 list-others config file old new valid declared same = λ number out. same number (λ is. out (subst (IsNodeDevice config) (sym is) (file-node config file valid declared)))
 
 -- the place and the epoch of a node that is up for a run
-pub small-up : (is_so : Up → Bool) (o : Option Up) (up : Up) → unless is_so o ≡ Some up → HasSmallPlace o → (up.place ≤ 2 ^ 63) × (1 ≤ up.epoch)
-small-up is_so o up is small = subst HasSmallPlace (unless-some is_so o up is).0 small
+pub small-up : (is_so : Up → Bool) (o : Option Up) (up : Up) → unless is_so o ≡ Some up → IsBounded o → (up.place ≤ 2 ^ 63) × (1 ≤ up.epoch)
+small-up is_so o up is small = subst IsBounded (unless-some is_so o up is).0 small
 
 -- of devices that stand for a map no file is crowded: its volume is whole, and the map has room
 pub none-crowded : LoweredLaw → (config : Config) (held : ℕ → Held) (list : List MonitorRecord) (map : RecordMap) (epoch place : ℕ) → IsUp config held list map epoch place → IsValidConfig config → (file : ℕ) → IsCrowded config held file → ⊥

@@ -44,7 +44,7 @@ use Rattle.tmf_lines.specs.declared.line.Line.TheVariants.{Rolled}
 use Rattle.tmf_lines.specs.Report.{volume_name}
 use Rattle.tmf_cli.specs.declared.node.NodeState.{NodeState}
 use Rattle.tmf_cli.specs.declared.node.Up.{Up}
-use Rattle.tmf_cli.specs.BetweenActions.{HasBroken, HasDone, HasSmallPlace, IfUp, IsEndOf, IsReady, Knows, RestsUp, node_of}
+use Rattle.tmf_cli.specs.BetweenActions.{HasBroken, HasDone, IsBounded, IfUp, IsEndOf, IsReady, Knows, RestsUp, node_of}
 use Rattle.tmf_cli.specs.Lost.{flags_without, is_lost_volume, up_with_volume, with_volume}
 use Rattle.tmf_cli.specs.OutputLaw.{Candidate, IsRollLine, IsUnrolledFor, MayStand, OneOf, StandsAs, after_no_roll, after_part_roll, after_roll, with_back, unrolled_state}
 use Rattle.tmf_cli.specs.Rolling.{RollsBay}
@@ -55,7 +55,7 @@ use Rattle.tmf_cli.proofs.Resting.{IsFine, up-ready}
 use Rattle.tmf_cli.proofs.Standings.{oneof-flat, oneof-map}
 
 -- a node behind a rollforward that was refused has a small place, where it had one
-pub unrolled-small : (error : RollError) (state : NodeState) → HasSmallPlace state.up → HasSmallPlace (unrolled_state error state).up
+pub unrolled-small : (error : RollError) (state : NodeState) → IsBounded state.up → IsBounded (unrolled_state error state).up
 unrolled-small roll.NotLost state small = small
 unrolled-small roll.NoDump state small = small
 unrolled-small (roll.Failed device) state small = tt

@@ -107,9 +107,9 @@ pub record HasBroken {D : Type 0} (held : D → Held) (faults : D → ℕ) (conf
   pub undamaged : IsUndamagedStop stop
 
 -- the next place, where the node is up, is far from the end of its type, and its epoch is one that a Start begins
-abbrev pub HasSmallPlace : Option Up → Type 0
-HasSmallPlace None = Unit {0}
-HasSmallPlace (Some up) = (up.place ≤ 2 ^ 63) × (1 ≤ up.epoch)
+abbrev pub IsBounded : Option Up → Type 0
+IsBounded None = Unit {0}
+IsBounded (Some up) = (up.place ≤ 2 ^ 63) × (1 ≤ up.epoch)
 
 -- so many restarts lead from one state of a fuse to another; where there is none, it was at most switched on or off
 abbrev pub RestartsTimes : {D : Type 0} → (Fuse D → Fuse D → Type 0) → ℕ → Fuse D → Fuse D → Type 0

@@ -36,7 +36,7 @@ pub record AnswersScript {S K D : Type 0} (sources : source.Ghosts S) (sinks : s
     (source source_now : S) (sink sink_now : K) (old new : List (Fuse D)) : Type 0 where
   pub complete : accepted ≡ true → DevicesTell disks.tells old → ¬ Rose (sources.faults source) (sources.faults source_now) → ¬ Rose (sinks.faults sink) (sinks.faults sink_now)
       → ((device : ℕ) → ¬ RoseAt disks.faults old new device) → (code ≡ 0) ⊎ (code ≡ 2)
-  pub built : code ≢ 5
+  pub unrefused : code ≢ 5
   pub stopped : DevicesTell disks.tells old → code ≡ 6 → (device : ℕ) × HasFailed disks.faults script.config old new device
   pub unkilled : accepted ≡ true → DevicesTell disks.tells old → ¬ Rose (sources.faults source) (sources.faults source_now) → ¬ Rose (sinks.faults sink) (sinks.faults sink_now)
       → NoneKilled script.actions → NoneFails disks.faults old new → (code ≡ 0) ⊎ (code ≡ 2)

@@ -1,5 +1,5 @@
 -- Completeness: where no device fails, no line tells of a fault.
-use Rattle.std.specs.Prelude.{◌≡◌, ◌⊎◌, ℕ, List, ◌∷◌, length, Option, Some}
+use Rattle.std.specs.Prelude.{◌≡◌, ◌⊎◌, ℕ, List, ◌∷◌, ◌++◌, length, Option, Some}
 use Rattle.std.specs.List.{AllByRecursion}
 use Rattle.disk_model.specs.Held.{Held}
 use Rattle.disk_model.specs.declared.fuse.Fuse.{Fuse}
@@ -9,6 +9,7 @@ use Rattle.tmf_model.specs.declared.script.Action.TheVariants.{Format}
 use Rattle.run_outcomes.specs.Devices.{devices}
 use Rattle.tmf_lines.specs.declared.line.Line.{Line}
 use Rattle.tmf_lines.specs.declared.line.Line.TheVariants.{AttemptFailed, Damaged, DumpsFailed, Failed, Hanging, InDoubt, ListDamaged, ListFailed, LoseFailed, RollDamaged, RollFailed, RunDamaged, RunFailed, Stopped}
+use Rattle.tmf_lines.specs.Line.{lines_text}
 use Rattle.tmf_cli.specs.OneOutput.{NoneRose}
 use Rattle.tmf_cli.specs.OutputLaw.{Candidate, Node, ToldBy}
 
@@ -50,3 +51,9 @@ abbrev pub FaultlessLaw : {D : Type 0} → (D → Held) → (D → ℕ) → Conf
 FaultlessLaw {D} held faults config =
     (actions : List Action) (before after : Node) (old new : List (Fuse D)) (lines : List Line) → length old ≡ devices → IsKnown before.candidates ⊎ BeginsWithFormat actions
     → ToldBy held faults config actions before old lines after new → NoneRose faults old new → AreFaultless lines
+
+-- the sink was given lines of which none tells of a fault
+pub record IsFaultlessOutput (before after : List ℕ) : Type 0 where
+  pub lines : List Line
+  pub given : after ≡ before ++ lines_text lines
+  pub all : AreFaultless lines

@@ -50,7 +50,7 @@ with_volume volume state = record state { up = option_map (up_with_volume volume
 abbrev pub AreLost : Config → (ℕ → Held) → List Bool → Type 0
 AreLost config held lost = (volume : ℕ) (line : Volume) → IsNumber config.volumes volume line → is_lost (held (volume_device volume)) ≡ is_lost_volume lost volume
 
--- whether a step of the item is on a file that lies on a lost volume
+-- whether a lost volume is that of an item: of the file of one of its steps, or the one that it draws or dumps
 abbrev pub item_names_lost : Config → List Bool → Item → Bool
 item_names_lost config lost (TransactionItem transaction) = list_any (λ step. is_lost_volume lost (volume_on config step.file)) transaction.steps
 item_names_lost config lost (Control volume) = is_lost_volume lost volume

@@ -23,7 +23,7 @@ NoneRose faults old new = (device : ℕ) → RoseAt faults old new device → �
 abbrev pub AreUnspent : List Line → Type 0
 AreUnspent lines = AllByRecursion (λ line. line ≡ EpochsSpent → ⊥) lines
 
--- Two outputs of one script that formats first and whose runs are of one worker, over whatever devices, are the same where none of them has failed, and no epochs were spent.
+-- Two outputs of one script that formats first and whose runs are single, over whatever devices, are the same where none of them has failed, and no epochs were spent.
 abbrev pub OneOutput : {D : Type 0} → (D → Held) → (D → ℕ) → Config → Type 0
 OneOutput {D} held faults config =
     (actions : List Action) (candidates other_candidates : Option (List Candidate)) (after other_after : Node) (old new other_old other_new : List (Fuse D)) (lines other : List Line)

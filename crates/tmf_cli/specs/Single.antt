@@ -34,7 +34,7 @@ IsSingleAction (Lose volume) = Unit {0}
 IsSingleAction (Rollforward volume kill) = Unit {0}
 IsSingleAction (ListFile file) = Unit {0}
 
--- each run among the actions is of one worker
+-- each run among the actions is single
 abbrev pub AreSingle : List Action → Type 0
 AreSingle actions = AllByRecursion IsSingleAction actions
 

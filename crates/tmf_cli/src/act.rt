@@ -3,7 +3,7 @@ ghost use Rattle.std.specs.Prelude.{◌≡◌, ℕ, [], List, Option, None, Err,
 ghost use Rattle.tmf_model.specs.Config.{IsDeclared, IsValidConfig};
 ghost use Rattle.tmf_model.specs.declared.script.Action.TheVariants.{Format, Recover as RecoverAction, Run as RunAction, Lose as LoseAction, List as ListAction};
 ghost use Rattle.tmf_model.specs.Script.{IsValidAction, IsValidPhase};
-ghost use Rattle.tmf_cli.specs.BetweenActions.{HasDone, HasBroken, HasSmallPlace, IsListLine, Knows, LeavesBay, SameOthers, node_of};
+ghost use Rattle.tmf_cli.specs.BetweenActions.{HasDone, HasBroken, IsBounded, IsListLine, Knows, LeavesBay, SameOthers, node_of};
 ghost use Rattle.tmf_cli.specs.OutputLaw.{HasFailed, Candidate, IsRecoveryLine};
 ghost use Rattle.disk_model.specs.Devices.{AreLater, DevicesTell};
 ghost use Rattle.tmf_cli.specs.Countdown.{IsOff, kill_of};
@@ -41,7 +41,7 @@ fn act_format<D: Disk>(
     ensures done { (candidates : Option (List Candidate)) → DevicesTell D.tells bay.old
         → IfOk result (λ lines. HasDone D.held D.faults config.now Format (node_of state.old candidates) bay.old lines.items state.new bay.new) }
     ensures broken { (candidates : Option (List Candidate)) → IfErr result (λ stop. HasBroken D.held D.faults config.now Format (node_of state.old candidates) bay.old [] stop bay.new) }
-    ensures small { OnOk result (HasSmallPlace state.new.up) }
+    ensures small { OnOk result (IsBounded state.new.up) }
     ensures keeps { AreLater D.Disk bay.old bay.new }
     ensures others { SameOthers config.now bay.old bay.new }
     ensures memory { IfErr result (λ stop. stop ≡ Stop.NoMemory) }
@@ -70,13 +70,13 @@ fn act_recover<D: Disk>(
     kill: Option<u64>,
 ) -> Result<Vec<Line>, Stop>
     requires valid { IsValidConfig config.now }
-    requires small { HasSmallPlace state.old.up }
+    requires small { IsBounded state.old.up }
     requires off { IsOff bay.old }
     ensures done { (candidates : Option (List Candidate)) → DevicesTell D.tells bay.old → Knows D.held config.now (node_of state.old candidates) bay.old
         → IfOk result (λ lines. HasDone D.held D.faults config.now (RecoverAction kill) (node_of state.old candidates) bay.old lines.items state.new bay.new) }
     ensures broken { (candidates : Option (List Candidate)) → DevicesTell D.tells bay.old → Knows D.held config.now (node_of state.old candidates) bay.old
         → IfErr result (λ stop. HasBroken D.held D.faults config.now (RecoverAction kill) (node_of state.old candidates) bay.old [] stop bay.new) }
-    ensures small { OnOk result (HasSmallPlace state.new.up) }
+    ensures small { OnOk result (IsBounded state.new.up) }
     ensures keeps { LeavesBay D.Disk config.now (kill ≡ None) bay.old bay.new }
     ensures memory { IfErr result (λ stop. stop ≡ Stop.NoMemory) }
 {
@@ -117,7 +117,7 @@ fn act_lose<D: Disk>(
         → IfOk result (λ lines. HasDone D.held D.faults config.now (LoseAction volume) (node_of state.old candidates) bay.old lines.items state.new bay.new) }
     ensures broken { (candidates : Option (List Candidate)) → DevicesTell D.tells bay.old → Knows D.held config.now (node_of state.old candidates) bay.old
         → IfErr result (λ stop. HasBroken D.held D.faults config.now (LoseAction volume) (node_of state.old candidates) bay.old [] stop bay.new) }
-    ensures small { OnOk result (HasSmallPlace state.new.up) }
+    ensures small { OnOk result (IsBounded state.new.up) }
     ensures keeps { AreLater D.Disk bay.old bay.new }
     ensures others { SameOthers config.now bay.old bay.new }
     ensures memory { IfErr result (λ stop. stop ≡ Stop.NoMemory) }
@@ -210,13 +210,13 @@ fn act_run<R: Threads + Wait + Sync, D: Disk + Send>(
     requires valid { IsValidConfig config.now }
     requires phase { IsValidPhase config.now phase.now }
     requires none { lines.old.items ≡ [] }
-    requires small { HasSmallPlace state.old.up }
+    requires small { IsBounded state.old.up }
     requires off { IsOff bay }
     ensures done { (candidates : Option (List Candidate)) → DevicesTell D.tells bay → Knows D.held config.now (node_of state.old candidates) bay
         → OnOk result.0 (HasDone D.held D.faults config.now (RunAction phase.now) (node_of state.old candidates) bay lines.new.items state.new result.1) }
     ensures broken { (candidates : Option (List Candidate)) → DevicesTell D.tells bay → Knows D.held config.now (node_of state.old candidates) bay
         → IfErr result.0 (λ stop. HasBroken D.held D.faults config.now (RunAction phase.now) (node_of state.old candidates) bay lines.new.items stop result.1) }
-    ensures small { HasSmallPlace state.new.up }
+    ensures small { IsBounded state.new.up }
     ensures keeps { LeavesBay D.Disk config.now (phase.now.kill ≡ None) bay result.1 }
     ensures cause { (device : ℕ) → result.0 ≡ Err (Stop.Failed device) → HasFailed D.faults config.now bay result.1 device }
 {
@@ -244,13 +244,13 @@ pub fn act<R: Threads + Wait + Sync, D: Disk + Send>(
     requires valid { IsValidConfig config.now }
     requires action { IsValidAction config.now action.now }
     requires none { lines.old.items ≡ [] }
-    requires small { HasSmallPlace state.old.up }
+    requires small { IsBounded state.old.up }
     requires off { IsOff bay }
     ensures done { (candidates : Option (List Candidate)) → DevicesTell D.tells bay → Knows D.held config.now (node_of state.old candidates) bay
         → OnOk result.0 (HasDone D.held D.faults config.now action.now (node_of state.old candidates) bay lines.new.items state.new result.1) }
     ensures broken { (candidates : Option (List Candidate)) → DevicesTell D.tells bay → Knows D.held config.now (node_of state.old candidates) bay
         → IfErr result.0 (λ stop. HasBroken D.held D.faults config.now action.now (node_of state.old candidates) bay lines.new.items stop result.1) }
-    ensures small { OnOk result.0 (HasSmallPlace state.new.up) }
+    ensures small { OnOk result.0 (IsBounded state.new.up) }
     ensures keeps { LeavesBay D.Disk config.now (kill_of action.now ≡ None) bay result.1 }
     ensures cause { (device : ℕ) → result.0 ≡ Err (Stop.Failed device) → HasFailed D.faults config.now bay result.1 device }
 {

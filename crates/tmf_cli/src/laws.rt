@@ -6,7 +6,7 @@ ghost use Rattle.tmf_cli.specs.OneOutput.{OneOutput};
 use disk_model::Disk;
 use tmf_model::Config;
 
-/// Where no device fails, the output of a script whose runs are of one worker is one function of it: two outputs of one that formats first are the same, whatever devices there are and whatever
+/// Where no device fails, the output of a script whose runs are single is one function of it: two outputs of one that formats first are the same, whatever devices there are and whatever
 /// they held. A law over two calls, in the words of their clause `told`; the clause `one_output` of `tmf` says it of one call against any other.
 pub fn one_output_law<D: Disk>(config: &Config)
     ensures { OneOutput D.held D.faults config.now }

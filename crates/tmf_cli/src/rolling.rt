@@ -3,7 +3,7 @@ ghost use Rattle.std.specs.Prelude.{◌≡◌, [], List, Option, None, IfErr, If
 ghost use Rattle.disk_model.specs.Devices.{DevicesTell};
 ghost use Rattle.tmf_model.specs.Config.{IsDeclared, IsValidConfig};
 ghost use Rattle.tmf_model.specs.declared.script.Action.TheVariants.{Rollforward as RollAction};
-ghost use Rattle.tmf_cli.specs.BetweenActions.{HasBroken, HasDone, HasSmallPlace, Knows, LeavesBay, node_of};
+ghost use Rattle.tmf_cli.specs.BetweenActions.{HasBroken, HasDone, IsBounded, Knows, LeavesBay, node_of};
 ghost use Rattle.tmf_cli.specs.Countdown.{IsOff};
 ghost use Rattle.tmf_cli.specs.OutputLaw.{Candidate, IsRollLine};
 
@@ -28,13 +28,13 @@ pub fn act_rollforward<D: Disk>(
 ) -> Result<Vec<Line>, Stop>
     requires valid { IsValidConfig config.now }
     requires declared { IsDeclared config.now.volumes volume }
-    requires small { HasSmallPlace state.old.up }
+    requires small { IsBounded state.old.up }
     requires off { IsOff bay.old }
     ensures done { (candidates : Option (List Candidate)) → DevicesTell D.tells bay.old → Knows D.held config.now (node_of state.old candidates) bay.old
         → IfOk result (λ lines. HasDone D.held D.faults config.now (RollAction volume kill) (node_of state.old candidates) bay.old lines.items state.new bay.new) }
     ensures broken { (candidates : Option (List Candidate)) → DevicesTell D.tells bay.old → Knows D.held config.now (node_of state.old candidates) bay.old
         → IfErr result (λ stop. HasBroken D.held D.faults config.now (RollAction volume kill) (node_of state.old candidates) bay.old [] stop bay.new) }
-    ensures small { OnOk result (HasSmallPlace state.new.up) }
+    ensures small { OnOk result (IsBounded state.new.up) }
     ensures keeps { LeavesBay D.Disk config.now (kill ≡ None) bay.old bay.new }
     ensures memory { IfErr result (λ stop. stop ≡ Stop.NoMemory) }
 {

@@ -1,6 +1,7 @@
 //! The top call: all that the program does.
-ghost use Rattle.std.specs.Prelude.{◌≡◌, ◌≢◌, ◌⊎◌, ◌≤◌, ◌++◌, ◌∷◌, [], ℕ, List, Option, None, map, take, drop, true, false, string_bytes, IsTrue, IfOk, IfErr, IfSome};
+ghost use Rattle.std.specs.Prelude.{◌≡◌, ◌≢◌, ◌⊎◌, ◌≤◌, ◌++◌, ◌∷◌, [], ℕ, List, Option, None, length, map, take, drop, true, false, string_bytes, IsTrue, IfOk, IfErr, IfSome};
 ghost use Rattle.disk_model.specs.Held.{Rose};
+ghost use Rattle.run_outcomes.specs.Devices.{devices};
 ghost use Rattle.tmf_edges.specs.Moves.{AppendsPart, DropsPart};
 ghost use Rattle.tmf_model.specs.Script.{IsValidScript};
 ghost use Rattle.tmf_model.specs.declared.script.Script.{Script};
@@ -9,6 +10,7 @@ ghost use Rattle.tmf_cli.specs.ActionGiven.{KeepsSink};
 ghost use Rattle.tmf_cli.specs.BetweenActions.{LeavesBay, OthersRestarted};
 ghost use Rattle.tmf_cli.specs.Call.{AnswersText, AnswersUsage, HasStatus, KeepsBay, KeepsOn};
 ghost use Rattle.tmf_cli.specs.Countdown.{IsOff, NoneCut, NoneKilled, OnceSwitched};
+ghost use Rattle.tmf_cli.specs.Faultless.{IsFaultlessOutput, IsKnown};
 ghost use Rattle.tmf_cli.specs.Headline.{KeepsEveryCommit};
 ghost use Rattle.tmf_lines.specs.Line.{lines_text};
 ghost use Rattle.tmf_cli.specs.Single.{AreSingle};
@@ -93,6 +95,7 @@ fn carry_out<R: Threads + Wait + Sync, K: Sink, D: Disk + Send>(
     ensures keeps { OnceSwitched (λ opened. LeavesBay D.Disk script.now.config (NoneKilled script.now.actions) opened result.1) bay }
     ensures keeps_sink { KeepsSink K.Sink sink.old sink.new }
     ensures cause { IsStatusCaused result.0 (K.faults sink.old) (K.faults sink.new) }
+    ensures all { length bay ≡ devices }
 {
     let mut bay = bay;
     bay.disarm();
@@ -143,7 +146,7 @@ fn script_from<S: Source, K: Sink>(
     ensures script { IsTrue (S.tells source.old) → IfOk result (λ script. IsScriptOf script (take read_limit (S.rest source.old))) }
     ensures silent { IsTrue (K.tells sink.old) → IfErr result (λ status. (status ≡ Status.SourceFailed) ⊎ (status ≡ Status.NoMemory) → K.given sink.new ≡ K.given sink.old) }
     ensures only { IsTrue (S.tells source.old) → (script : Script) → IsScriptOf script (take read_limit (S.rest source.old)) → IfOk result (λ read. read ≡ script) }
-    ensures built { IsTrue (S.tells source.old) → (script : Script) → IsScriptOf script (take read_limit (S.rest source.old)) → IfErr result (λ status. status ≢ Status.Refused) }
+    ensures unrefused { IsTrue (S.tells source.old) → (script : Script) → IsScriptOf script (take read_limit (S.rest source.old)) → IfErr result (λ status. status ≢ Status.Refused) }
     ensures same { IsTrue (K.tells sink.old) → IfOk result (λ script. K.given sink.new ≡ K.given sink.old) }
     ensures quiet { IsTrue (S.tells source.old) → IsTrue (K.tells sink.old) → (script : Script) → IsScriptOf script (take read_limit (S.rest source.old)) → K.given sink.new ≡ K.given sink.old }
     ensures taken { IsTrue (S.tells source.old) → DropsPart read_limit (S.rest source.old) (S.rest source.new) }
@@ -179,7 +182,7 @@ fn run_script<R: Threads + Wait + Sync, S: Source, K: Sink, D: Disk + Send>(
         → Opens D.held script bay candidates → OnceSwitched (λ opened. Tells D.held D.faults script candidates result.0 opened result.1 (IsTrue (K.tells sink.old)) (K.given sink.old) (K.given sink.new)) bay }
     ensures stopped { (script : Script) → IsScriptOf script (take read_limit (S.rest source.old)) → IsTrue (S.tells source.old) → DevicesTell D.tells bay
         → result.0 ≡ Status.Stopped → (device : ℕ) × HasFailed D.faults script.config bay result.1 device }
-    ensures built { (script : Script) → IsScriptOf script (take read_limit (S.rest source.old)) → IsTrue (S.tells source.old) → result.0 ≢ Status.Refused }
+    ensures unrefused { (script : Script) → IsScriptOf script (take read_limit (S.rest source.old)) → IsTrue (S.tells source.old) → result.0 ≢ Status.Refused }
     ensures source_failed { result.0 ≡ Status.SourceFailed → Rose (S.faults source.old) (S.faults source.new) }
     ensures sink_failed { result.0 ≡ Status.SinkFailed → Rose (K.faults sink.old) (K.faults sink.new) }
     ensures refused { IsTrue (S.tells source.old) → IsTrue (K.tells sink.old) → result.0 ≡ Status.Refused
@@ -204,6 +207,7 @@ fn run_script<R: Threads + Wait + Sync, S: Source, K: Sink, D: Disk + Send>(
     ensures untouched { (result.0 ≡ Status.SourceFailed) ⊎ (result.0 ≡ Status.Refused) → result.1 ≡ bay }
     ensures unread { IsTrue (S.tells source.old) → ¬ IsScript (take read_limit (S.rest source.old)) → result.1 ≡ bay }
     ensures keeps { KeepsBay D.Disk bay result.1 }
+    ensures all { result.0 ≡ Status.Done → length bay ≡ devices }
     ensures words { result.0 ≢ Status.Usage }
 {
     match script_from(means.alloc, source, sink) {
@@ -231,7 +235,7 @@ pub fn tmf<R: Threads + Wait + Sync, S: Source, K: Sink, D: Disk + Send>(
     ensures usage { are_accepted (map string_bytes words.now) ≡ false → AnswersUsage K.Sink result.0 source.old source.new sink.old sink.new bay result.1 }
 
     // The promise: however the call ends, whatever a crash then leaves of the devices stands for what stood at the last whole format, or when the call began, and behind it for every
-    // commit that the lines acknowledge since, each at its place and whole, for those alone besides that they leave in doubt, and, where the device of the monitor trail has failed in a run of one worker, at most one more that was in flight, and for nothing of any other transaction;
+    // commit that the lines acknowledge since, each at its place and whole, for those alone besides that they leave in doubt, and, where the device of the monitor trail has failed in a single run, at most one more that was in flight, and for nothing of any other transaction;
     // unless the last format that was begun was not whole, or nothing was known of the devices and the script has formatted none. Its premises: source and devices tell their state, and
     // the devices that are handed in may stand for these lists and maps.
     ensures headline { (script : Script) (candidates : Option (List Candidate)) → are_accepted (map string_bytes words.now) ≡ true → IsScriptOf script (take read_limit (S.rest source.old))
@@ -246,9 +250,15 @@ pub fn tmf<R: Threads + Wait + Sync, S: Source, K: Sink, D: Disk + Send>(
         → IsTrue (S.tells source.old) → DevicesTell D.tells bay → Opens D.held script bay candidates
         → OnceSwitched (λ opened. TellsBy D.held D.faults script candidates result.0 opened result.1 (IsTrue (K.tells sink.old)) (K.given sink.old) (K.given sink.new)) bay }
 
-    // Of a script that formats first, and whose runs are of one worker, where no device fails and the status is 0, the output is the one that the script determines, whatever devices were handed in.
+    // Of a script that formats first, and whose runs are single, where no device fails and the status is 0, the output is the one that the script determines, whatever devices were handed in.
     ensures one_output { (script : Script) → are_accepted (map string_bytes words.now) ≡ true → IsScriptOf script (take read_limit (S.rest source.old)) → IsTrue (S.tells source.old) → IsTrue (K.tells sink.old)
         → DevicesTell D.tells bay → FormatsFirst script → AreSingle script.actions → NoneRose D.faults bay result.1 → result.0 ≡ 0 → IsTheOutput D.held D.faults script (K.given sink.old) (K.given sink.new) }
+
+    // Completeness: where no device fails and the status is 0, and it is known what the devices that are handed in may stand for, or the script formats first, none of the lines that were
+    // given tells of a fault: each action was carried out, or refused for what the node and its devices are, and each attempt of a run ended in a way that has no fault for its cause.
+    ensures faultless { (script : Script) (candidates : Option (List Candidate)) → are_accepted (map string_bytes words.now) ≡ true → IsScriptOf script (take read_limit (S.rest source.old)) → IsTrue (S.tells source.old)
+        → IsTrue (K.tells sink.old) → DevicesTell D.tells bay → Opens D.held script bay candidates → IsKnown candidates ⊎ FormatsFirst script → NoneRose D.faults bay result.1 → result.0 ≡ 0
+        → IsFaultlessOutput (K.given sink.old) (K.given sink.new) }
 
     // A script is carried out, any other text is refused; and each status has its cause and its lines. Status 2 is want of memory, or a run that was refused since a disc's
     // positions are spent or a file's records have no room, as the law of the output says of the run in which the script ended.

@@ -6,7 +6,7 @@ use Rattle.std.proofs.lemmas.List.Elements.{recursion_from_All}
 use Rattle.disk_model.proofs.Devices.{rose-after}
 use Rattle.tmf_model.specs.Script.{IsValidAction}
 use Rattle.tmf_lines.specs.declared.line.Line.{Line}
-use Rattle.tmf_cli.specs.BetweenActions.{HasSmallPlace, node_of}
+use Rattle.tmf_cli.specs.BetweenActions.{IsBounded, node_of}
 use Rattle.tmf_lines.specs.Line.{lines_text}
 use Rattle.tmf_cli.specs.ActionGiven.{EndsAction, HasPlayed}
 use Rattle.tmf_cli.specs.OutputLaw.{HasFailed}
@@ -23,7 +23,7 @@ loop-action-init g c = (
   record {
     parts = refl;
     valid = recursion_from_All (IsValidAction c.args.config.now) c.args.actions.now c.requires.actions;
-    small = subst (λ s. HasSmallPlace s.up) (sym c.new-state.ensures) tt;
+    small = subst (λ s. IsBounded s.up) (sym c.new-state.ensures) tt;
     keeps_sink = record { tells = refl; later = search rules };
     keeps = leaves-same g.D.Disk (g.met.D.Disk g.world.𝓛 g.world.𝓜 g.world.𝓡 ((λ s x. x), (λ x. x), (λ x. x), λ x. x)).same_itself c.args.config.now _ c.args.bay c.requires.off;
     some = λ ts. ([], sym (append-nil (g.K.Sink.given c.args.sink.now)));
@@ -90,7 +90,7 @@ loop-action-preserved g c =
       record {
         parts = had.parts ∙ ap (λ rest. done ++ rest) first ∙ sym (append_assoc done (action ∷ []) more);
         valid = (subst (AllByRecursion (IsValidAction c.args.config.now)) first had.valid).1;
-        small = subst (λ r. OnOk r (HasSmallPlace c.play_action-played.new.state.up)) c.in_default-played.is c.play_action-played.ensures.small;
+        small = subst (λ r. OnOk r (IsBounded c.play_action-played.new.state.up)) c.in_default-played.is c.play_action-played.ensures.small;
         keeps_sink = sink-then g.K.Sink c.args.sink.now c.loop-action.sink c.play_action-played.new.sink had.keeps_sink c.play_action-played.ensures.keeps_sink;
         keeps = leaves-then g.D.Disk (g.met.D.Disk g.world.𝓛 g.world.𝓜 g.world.𝓡 ((λ s x. x), (λ x. x), (λ x. x), λ x. x)).same_on c.args.config.now _ _ _ (λ none. none) (none-killed c.args.actions.now done more action (had.parts ∙ ap (λ rest. done ++ rest) first))
             c.args.bay c.loop-action.bay c.play_action-played.result.1 had.keeps c.play_action-played.ensures.keeps;

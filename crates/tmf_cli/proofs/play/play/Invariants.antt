@@ -6,7 +6,7 @@ use Rattle.tmf_model.specs.Script.{IsValidAction}
 use Rattle.disk_model.specs.Devices.{DevicesTell}
 use Rattle.tmf_lines.specs.declared.line.Line.{Line}
 use Rattle.tmf_cli.specs.ActionGiven.{KeepsSink}
-use Rattle.tmf_cli.specs.BetweenActions.{HasSmallPlace, Knows, LeavesBay}
+use Rattle.tmf_cli.specs.BetweenActions.{IsBounded, Knows, LeavesBay}
 use Rattle.tmf_cli.specs.Countdown.{NoneKilled}
 use Rattle.tmf_lines.specs.Line.{lines_text}
 use Rattle.tmf_cli.specs.Ending.{opening}
@@ -18,7 +18,7 @@ abbrev pub invariant-loop-action : goal.invariant-loop-action
 invariant-loop-action g l = (done : List Action) × record {
   parts : l.fn.actions ≡ done ++ l.rest;
   valid : AllByRecursion (IsValidAction l.fn.config) l.rest;
-  small : HasSmallPlace l.state.up;
+  small : IsBounded l.state.up;
   keeps_sink : KeepsSink g.K.Sink l.initial.sink l.sink;
   keeps : LeavesBay g.D.Disk l.fn.config (NoneKilled l.fn.actions) l.initial.bay l.bay;
   some : IsTrue (g.K.Sink.tells l.initial.sink) → (lines : List Line) × (g.K.Sink.given l.sink ≡ g.K.Sink.given l.initial.sink ++ lines_text lines);

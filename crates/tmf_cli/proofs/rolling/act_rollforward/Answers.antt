@@ -1,7 +1,7 @@
 use Rattle.std.proofs.Common.{rules, [], ◌∷◌, ◌++◌, sym, ap, subst, ◌∙◌}
 use Rattle.tmf_lines.specs.declared.line.Line.TheVariants.{Rolled}
 use Rattle.tmf_cli.specs.declared.node.NodeState.{NodeState}
-use Rattle.tmf_cli.specs.BetweenActions.{HasSmallPlace}
+use Rattle.tmf_cli.specs.BetweenActions.{IsBounded}
 use Rattle.tmf_cli.proofs.Rollings.{rolled-done, some-of, unrolled-broken, unrolled-done, unrolled-small, unwritten-memory}
 use Rattle.tmf_cli.proofs.rolling.act_rollforward.Goals as goal
 
@@ -20,7 +20,7 @@ returns-in-Ok-clause-done g c = λ candidates tell knows.
     c.with_volume.ensures
 
 pub returns-in_ok-line-in-Err-clause-small : goal.returns-in_ok-line-in-Err-clause-small
-returns-in_ok-line-in-Err-clause-small g c = subst (λ (s : NodeState). HasSmallPlace s.up) (sym c.unrolled.ensures) (unrolled-small c.in-Err.error c.args.state.now c.requires.small)
+returns-in_ok-line-in-Err-clause-small g c = subst (λ (s : NodeState). IsBounded s.up) (sym c.unrolled.ensures) (unrolled-small c.in-Err.error c.args.state.now c.requires.small)
 
 pub returns-in_ok-line-in-Err-clause-done : goal.returns-in_ok-line-in-Err-clause-done
 returns-in_ok-line-in-Err-clause-done g c = λ candidates tell knows.

@@ -69,7 +69,10 @@ returns-in-Err-clause-keeps g c = bay-same g.D.Disk (g.met.D.Disk g.world.𝓛 g
 pub returns-in-Err-clause-told : goal.returns-in-Err-clause-told
 returns-in-Err-clause-told g c = λ script candidates is source tell opens.
     inl (tells-unread g.D.Disk.held g.D.Disk.faults script candidates c.args.bay (IsTrue (g.K.Sink.tells c.args.sink.now)) (g.K.Sink.given c.args.sink.now) (g.K.Sink.given c.script_from.new.sink) c.in-Err.status
-    (g.S.Source.faults c.args.source.now) (g.S.Source.faults c.script_from.new.source) c.in-Err.ensures.cause (c.in-Err.ensures.built source script is) (λ ts. c.in-Err.ensures.quiet source ts script is))
+    (g.S.Source.faults c.args.source.now) (g.S.Source.faults c.script_from.new.source) c.in-Err.ensures.cause (c.in-Err.ensures.unrefused source script is) (λ ts. c.in-Err.ensures.quiet source ts script is))
 
-pub returns-in-Err-clause-built : goal.returns-in-Err-clause-built
-returns-in-Err-clause-built g c = λ script is source refused. c.in-Err.ensures.built source script is refused
+pub returns-in-Err-clause-unrefused : goal.returns-in-Err-clause-unrefused
+returns-in-Err-clause-unrefused g c = λ script is source refused. c.in-Err.ensures.unrefused source script is refused
+
+pub returns-in-Err-clause-all : goal.returns-in-Err-clause-all
+returns-in-Err-clause-all g c = λ done. absurd (unread-unplayed c.in-Err.status (g.S.Source.faults c.args.source.now) (g.S.Source.faults c.script_from.new.source) c.in-Err.ensures.cause (inl done))

@@ -14,8 +14,8 @@ returns-in-Ok-read_script-clause-only g c = λ tells script is. c.in-Ok-read_scr
 pub returns-in-Ok-read_script-clause-read : goal.returns-in-Ok-read_script-clause-read
 returns-in-Ok-read_script-clause-read g c = λ tells. read-whole read_limit (vec_len c.in-Ok.text) c.in-Ok.text.items (g.S.Source.rest c.args.source.now) (g.S.Source.rest c.read_to_limit.new.source) (search rules) (c.in-Ok.ensures.told tells) (c.in-Ok.ensures.rest tells)
 
-pub returns-clause-built : goal.returns-clause-built
-returns-clause-built g c = λ tells script is refused.
+pub returns-clause-unrefused : goal.returns-clause-unrefused
+returns-clause-unrefused g c = λ tells script is refused.
     let none = c.in-Err.ensures.only script (subst (IsScriptOf script) (sym (c.deref.ensures.value ∙ c.in-Ok.ensures.told tells)) is) in
     let lacked = c.refuse.ensures.none none in absurd (cc)
 

@@ -8,7 +8,10 @@ use Rattle.tmf_cli.specs.Status.{code_of}
 use Rattle.tmf_cli.specs.OneOutput.{IsTheOutput}
 use Rattle.tmf_cli.specs.Top.{IsPlayed, IsRead, Tells, TellsBy}
 use Rattle.tmf_cli.proofs.Statuses.{code-done, code-memory, code-most, code-refused, code-sink, code-source, code-stopped, code-usage, none-failed, none-played, none-read, played-from, read-from}
-use Rattle.tmf_cli.proofs.Countdowns.{once-any, once-so, switched-cuts, switched-falls, switches-same}
+use Rattle.tmf_cli.specs.Countdown.{IsSwitched}
+use Rattle.tmf_cli.specs.Faultless.{IsFaultlessOutput}
+use Rattle.tmf_cli.proofs.Countdowns.{once-any, once-so, same-length, switched-cuts, switched-falls, switches-same}
+use Rattle.tmf_cli.proofs.FaultlessLines.{the_faultless}
 use Rattle.tmf_cli.proofs.OneOutputs.{the_output, whole-falls}
 use Rattle.tmf_cli.proofs.Openings.{none-rose, opens-switched}
 use Rattle.tmf_cli.proofs.Playing.{others-none}
@@ -40,8 +43,20 @@ returns-clause-one_output g c = λ form words is source sink tell first single n
     once-any (λ opened. Tells g.D.Disk.held g.D.Disk.faults form None c.run_script-status.result.0 opened c.run_script-status.result.1 (IsTrue (g.K.Sink.tells c.args.sink.now)) (g.K.Sink.given c.args.sink.now) (g.K.Sink.given c.run_script-status.new.sink))
     (IsTheOutput g.D.Disk.held g.D.Disk.faults form (g.K.Sink.given c.args.sink.now) (g.K.Sink.given c.run_script-status.new.sink)) c.args.bay
     (λ opened switched told. the_output g.D.Disk.held g.D.Disk.faults form opened new (IsTrue (g.K.Sink.tells c.args.sink.now)) (g.K.Sink.given c.args.sink.now) (g.K.Sink.given c.run_script-status.new.sink)
-    sink first single (λ device rose. none device (rose-after g.D.Disk.faults c.args.bay opened new device (switched-falls c.args.bay opened switched g.D.Disk.faults) (whole-falls g.D.Disk.held g.D.Disk.faults form opened new _ _ _ s code told) rose)) s code told)
+    sink first single (λ device rose. none device (rose-after g.D.Disk.faults c.args.bay opened new device (switched-falls c.args.bay opened switched g.D.Disk.faults) (whole-falls g.D.Disk.held g.D.Disk.faults form None opened new _ _ _ s code told) rose)) s code told)
     (c.run_script-status.ensures.told form None is source tell (record { stands = tt }))
+
+pub returns-clause-faultless : goal.returns-clause-faultless
+returns-clause-faultless g c = λ form candidates words is source sink tell opens known none done.
+    let s = c.run_script-status.result.0 in
+    let new = c.run_script-status.result.1 in
+    let code = code-done s (sym c.code-2.ensures ∙ done) in
+    once-any (λ opened. Tells g.D.Disk.held g.D.Disk.faults form candidates c.run_script-status.result.0 opened c.run_script-status.result.1 (IsTrue (g.K.Sink.tells c.args.sink.now)) (g.K.Sink.given c.args.sink.now) (g.K.Sink.given c.run_script-status.new.sink))
+    (IsFaultlessOutput (g.K.Sink.given c.args.sink.now) (g.K.Sink.given c.run_script-status.new.sink)) c.args.bay
+    (λ opened switched told. the_faultless g.D.Disk.held g.D.Disk.faults form candidates opened new (IsTrue (g.K.Sink.tells c.args.sink.now)) (g.K.Sink.given c.args.sink.now) (g.K.Sink.given c.run_script-status.new.sink)
+    sink (sym (same-length IsSwitched c.args.bay opened switched) ∙ c.run_script-status.ensures.all code) known
+    (λ device rose. none device (rose-after g.D.Disk.faults c.args.bay opened new device (switched-falls c.args.bay opened switched g.D.Disk.faults) (whole-falls g.D.Disk.held g.D.Disk.faults form candidates opened new _ _ _ s code told) rose)) s code told)
+    (c.run_script-status.ensures.told form candidates is source tell opens)
 
 pub returns-clause-text : goal.returns-clause-text
 returns-clause-text g c = λ source.
@@ -53,13 +68,13 @@ returns-clause-text g c = λ source.
         complete = λ words tell no_source no_sink no_device.
             ⊎_elim (λ e. inl (code 0 e)) (λ e. inr (code 2 e))
             (none-failed s ran.words (λ e. no_source (ran.source_failed e)) (λ e. no_sink (ran.sink_failed e))
-            (ran.built form is source) (λ e. let failed = ran.stopped form is source tell e in no_device failed.0 failed.1.1));
-        built = λ e. ran.built form is source (code-refused s (sym c.code-2.ensures ∙ e));
+            (ran.unrefused form is source) (λ e. let failed = ran.stopped form is source tell e in no_device failed.0 failed.1.1));
+        unrefused = λ e. ran.unrefused form is source (code-refused s (sym c.code-2.ensures ∙ e));
         stopped = λ tell e. ran.stopped form is source tell (code-stopped s (sym c.code-2.ensures ∙ e));
         unkilled = λ words tell no_source no_sink none fails.
             ⊎_elim (λ e. inl (code 0 e)) (λ e. inr (code 2 e))
             (none-failed s ran.words (λ e. no_source (ran.source_failed e)) (λ e. no_sink (ran.sink_failed e))
-            (ran.built form is source)
+            (ran.unrefused form is source)
             (λ e. let failed = ran.stopped form is source tell e in none-rose g.D.Disk.faults c.args.bay c.run_script-status.result.1 (ran.uncut form is source none) fails failed.0 failed.1.1));
         others = ran.others form is source;
         uncut = ran.uncut form is source;
@@ -127,7 +142,7 @@ returns-then-not-accepts-clause-text g c = λ source.
     record {
       script = λ form is. record {
         complete = λ words tell no_source no_sink no_device. absurd (cc);
-        built = λ e. none-read s c.tell.ensures.status (inr (sym c.code.ensures ∙ e));
+        unrefused = λ e. none-read s c.tell.ensures.status (inr (sym c.code.ensures ∙ e));
         stopped = λ tell e. absurd (none-read s c.tell.ensures.status (inl (inr (inr (sym c.code.ensures ∙ e)))));
         unkilled = λ words tell no_source no_sink none fails. absurd (cc);
         others = inl (others-none form.config (FuseRestarts g.D.Disk) c.args.bay);
