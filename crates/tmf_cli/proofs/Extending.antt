@@ -214,8 +214,8 @@ extend-more config most low middle high first more lines others s t u a b =
           (λ later. told-behind lines others b.in_flight tx (b.no_other tx later)) (Contains-append_cases a.records b.records (Commit tx) there);
       in_order = λ single.
           filter_map-append committed_by a.records b.records
-          ∙ ap (λ l. l ++ commits_of b.records) (a.in_order (all-front (λ run. IsSingle run.phase) first more single) ∙ ap (λ l. acknowledged lines ++ l) (none-left a.in_flight a.few) ∙ append-nil (acknowledged lines))
-          ∙ ap (λ l. acknowledged lines ++ l) (b.in_order (all-behind (λ run. IsSingle run.phase) first more single)) ∙ sym (append_assoc (acknowledged lines) (acknowledged others) b.in_flight)
+          ∙ ap (λ l. l ++ commits_of b.records) (a.in_order (all-front (λ run. IsSingle config run.phase) first more single) ∙ ap (λ l. acknowledged lines ++ l) (none-left a.in_flight a.few) ∙ append-nil (acknowledged lines))
+          ∙ ap (λ l. acknowledged lines ++ l) (b.in_order (all-behind (λ run. IsSingle config run.phase) first more single)) ∙ sym (append_assoc (acknowledged lines) (acknowledged others) b.in_flight)
           ∙ ap (λ l. l ++ b.in_flight) (sym (filter_map-append acknowledged_by lines others));
       places = λ tx place there.
           ⊎_elim (λ here. let at = a.places tx place here in (at.0, stays-at t.list b.records u.list (place - 1) (Commit tx) b.list at.1)) (λ later. let at = b.places tx place later in (behind-more at.0, at.1))
@@ -344,8 +344,8 @@ found-first (items ∷ []) few worker ordinal = refl
 found-first (items ∷ next ∷ rest) few worker ordinal = absurd (omega (arith, few))
 
 -- so a run of one worker means the same as its items alone
-pub single-means : (phase : Phase) (epoch : ℕ) (tx : Transid) → IsSingle phase → script_transaction phase epoch tx ≡ script_transaction (phase_of (items_of phase)) epoch tx
-single-means phase epoch tx single = ap (λ (o : Option Item). if tx.epoch == epoch then option_and_then (attempted tx.attempt) o else None) (found-first phase.workers single.few tx.worker tx.ordinal)
+pub single-means : (config : Config) (phase : Phase) (epoch : ℕ) (tx : Transid) → IsSingle config phase → script_transaction phase epoch tx ≡ script_transaction (phase_of (items_of phase)) epoch tx
+single-means config phase epoch tx single = ap (λ (o : Option Item). if tx.epoch == epoch then option_and_then (attempted tx.attempt) o else None) (found-first phase.workers single.few tx.worker tx.ordinal)
 
 no-epoch : (records : List MonitorRecord) → ((e : ℕ) → Contains records (Start e) → ⊥) → last_epoch records ≡ None
 no-epoch [] none = refl
@@ -502,7 +502,7 @@ landed-told done next all both config tx there =
     (Contains-append_cases (acknowledged (outcome_lines config done)) (commits_of (records_left next)) tx (subst (λ l. Contains l tx) (ordered done next all both config) (commit-among (records_left all) tx there)))
 
 -- A run of one worker is added: all its outcomes have landed, and the first of them have their lines.
-pub extend-run : (most : ℕ) (config : Config) (epoch place : ℕ) (phase : Phase) (s : Candidate) (done next all : List Outcome) → IsSingle phase → all ≡ done ++ next → length next ≤ most → epoch ≡ epoch_of s.list → place ≡ length s.list + 1
+pub extend-run : (most : ℕ) (config : Config) (epoch place : ℕ) (phase : Phase) (s : Candidate) (done next all : List Outcome) → IsSingle config phase → all ≡ done ++ next → length next ≤ most → epoch ≡ epoch_of s.list → place ≡ length s.list + 1
     → AreOutcomes config epoch place (items_of phase) s.map all
     → Extends config most (epoch_of s.list) (suc (epoch_of (s.list ++ records_left all))) (record { epoch = epoch; phase = phase } ∷ []) (outcome_lines config done) s (with_outcomes (items_of phase) epoch all s)
 extend-run most config epoch first phase s done next all single both few same place_is outcomes =
@@ -526,7 +526,7 @@ extend-run most config epoch first phase s done next all single both few same pl
                 ∙ slice_get-map (λ o. record_of_end o.tx o.end) all at.0 ∙ ap (λ o. option_map (λ (x : Outcome). record_of_end x.tx x.end) o) here
                 ∙ ap (λ e. Some (record_of_end at.1.tx e)) at.5 ∙ ap (λ t. Some (Commit t)) at.4,
           );
-      map = commits-agree (script_transaction (phase_of items) epoch) (meaning_in (record { epoch = epoch; phase = phase } ∷ [])) records (λ tx there. sym (meaning-one phase epoch tx ∙ single-means phase epoch tx single)) s.map;
+      map = commits-agree (script_transaction (phase_of items) epoch) (meaning_in (record { epoch = epoch; phase = phase } ∷ [])) records (λ tx there. sym (meaning-one phase epoch tx ∙ single-means config phase epoch tx single)) s.map;
       lost = still-lost config (outcome_lines config done) s.lost (outcomes-still config done);
       ours = λ tx there.
           let at = commit-at all tx there in

@@ -418,7 +418,7 @@ module _ {D : Type 0} (held : D → Held) (faults : D → ℕ) (config : Config)
   one_done up phase = record { epoch = up.epoch; phase = phase } ∷ []
 
   -- a run behind which these outcomes stand, and of which the first have their lines, extends what it was begun on
-  one-run : (most : ℕ) (phase : Phase) (node : Node) (up : Up) (lines : List Line) (s : Candidate) (done next all : List Outcome) → IsSingle phase → node.state.up ≡ Some up → (up.epoch ≡ epoch_of s.list) × (up.place ≡ length s.list + 1)
+  one-run : (most : ℕ) (phase : Phase) (node : Node) (up : Up) (lines : List Line) (s : Candidate) (done next all : List Outcome) → IsSingle config phase → node.state.up ≡ Some up → (up.epoch ≡ epoch_of s.list) × (up.place ≡ length s.list + 1)
       → lines ≡ outcome_lines config done → all ≡ done ++ next → length next ≤ most → AreOutcomes config up.epoch up.place (items_of phase) s.map all
       → let left = with_outcomes (items_of phase) up.epoch all s in Extends config most (next_run node.state.up s.list) (suc (epoch_of left.list)) (one_done up phase) lines s left
   one-run most phase node up lines s done next all single was_up of printed both few outcomes =
@@ -428,7 +428,7 @@ module _ {D : Type 0} (held : D → Held) (faults : D → ℕ) (config : Config)
       (subst (λ l. Extends config most (epoch_of s.list) (suc (epoch_of left.list)) runs l s left) (sym printed)
       (extend-run most config up.epoch up.place phase s done next all single both few of.0 of.1 outcomes))
 
-  run-all : (phase : Phase) (node after : Node) (old : List (Fuse D)) (lines : List Line) → IsSingle phase → KnowsList node.state node.candidates → (whole : RunsWhole held config phase node old lines after)
+  run-all : (phase : Phase) (node after : Node) (old : List (Fuse D)) (lines : List Line) → IsSingle config phase → KnowsList node.state node.candidates → (whole : RunsWhole held config phase node old lines after)
       → AllExtend config 0 (one_done whole.up phase) lines node.state (down node.state) node.candidates after.candidates
   run-all phase node after old lines single knows whole = of-may node.candidates after.candidates knows whole.stands
     where
@@ -442,7 +442,7 @@ module _ {D : Type 0} (held : D → Held) (faults : D → ℕ) (config : Config)
           )
 
   -- the same of a run that was stopped: commits may be in flight, as many as its items that may
-  part-all : (phase : Phase) (node after : Node) (old new : List (Fuse D)) (lines : List Line) → IsSingle phase → KnowsList node.state node.candidates → (why : RunError) (part : RunsPart held faults config phase node old lines after new why)
+  part-all : (phase : Phase) (node after : Node) (old new : List (Fuse D)) (lines : List Line) → IsSingle config phase → KnowsList node.state node.candidates → (why : RunError) (part : RunsPart held faults config phase node old lines after new why)
       → AllExtend config (run_in_flight why) (one_done part.up phase) lines node.state (down node.state) node.candidates after.candidates
   part-all phase node after old new lines single knows why part = of-may node.candidates after.candidates knows part.stands
     where
@@ -467,7 +467,7 @@ module _ {D : Type 0} (held : D → Held) (faults : D → ℕ) (config : Config)
           )
 
   -- the same of a run on threads: no commit is in flight of which no line tells
-  threads-all : (phase : Phase) (node after : Node) (old new : List (Fuse D)) (lines : List Line) → ¬ IsSingle phase → KnowsList node.state node.candidates → (ran : RunsOnThreads held faults config phase node old lines after new)
+  threads-all : (phase : Phase) (node after : Node) (old new : List (Fuse D)) (lines : List Line) → ¬ IsSingle config phase → KnowsList node.state node.candidates → (ran : RunsOnThreads held faults config phase node old lines after new)
       → AllExtend config 0 (one_done ran.up phase) lines node.state (down node.state) node.candidates after.candidates
   threads-all phase node after old new lines many knows ran = of-may node.candidates after.candidates knows ran.stands
     where
@@ -493,7 +493,7 @@ module _ {D : Type 0} (held : D → Held) (faults : D → ℕ) (config : Config)
             ),
           )
 
-  whole-step : (phase : Phase) (node after : Node) (old : List (Fuse D)) (lines : List Line) → IsSingle phase → KnowsList node.state node.candidates → RunsWhole held config phase node old lines after → Step config 0 node lines after (action.Run phase)
+  whole-step : (phase : Phase) (node after : Node) (old : List (Fuse D)) (lines : List Line) → IsSingle config phase → KnowsList node.state node.candidates → RunsWhole held config phase node old lines after → Step config 0 node lines after (action.Run phase)
   whole-step phase node after old lines single knows whole = record {
     runs = one_done whole.up phase;
     of_action = (refl, tt);
@@ -503,7 +503,7 @@ module _ {D : Type 0} (held : D → Held) (faults : D → ℕ) (config : Config)
     unformatted = subst (AllByRecursion (λ line. is_formatted line ≡ false)) (sym whole.printed) (outcomes-unformatted config whole.done);
   }
 
-  threads-step : (phase : Phase) (node after : Node) (old new : List (Fuse D)) (lines : List Line) → ¬ IsSingle phase → KnowsList node.state node.candidates → RunsOnThreads held faults config phase node old lines after new
+  threads-step : (phase : Phase) (node after : Node) (old new : List (Fuse D)) (lines : List Line) → ¬ IsSingle config phase → KnowsList node.state node.candidates → RunsOnThreads held faults config phase node old lines after new
       → Step config 0 node lines after (action.Run phase)
   threads-step phase node after old new lines many knows ran = record {
     runs = one_done ran.up phase;
@@ -533,7 +533,7 @@ module _ {D : Type 0} (held : D → Held) (faults : D → ℕ) (config : Config)
       quiet-line (phase_error.Damaged device damage) line is = subst IsQuiet (sym is) ((refl, refl), refl)
       quiet-line phase_error.NoMemory line is = absurd is
 
-  part-step : (phase : Phase) (node after : Node) (old new : List (Fuse D)) (lines : List Line) → IsSingle phase → KnowsList node.state node.candidates → (why : RunError) (part : RunsPart held faults config phase node old lines after new why)
+  part-step : (phase : Phase) (node after : Node) (old new : List (Fuse D)) (lines : List Line) → IsSingle config phase → KnowsList node.state node.candidates → (why : RunError) (part : RunsPart held faults config phase node old lines after new why)
       → Step config (run_in_flight why) node lines after (action.Run phase)
   part-step phase node after old new lines single knows why part = record {
     runs = one_done part.up phase;
@@ -549,7 +549,7 @@ module _ {D : Type 0} (held : D → Held) (faults : D → ℕ) (config : Config)
   RoseFirst old new most = (most ≡ 0) ⊎ ((most ≡ 1) × RoseAt faults old new 0)
 
   abbrev pub Flying : Action → Node → List (Fuse D) → List (Fuse D) → ℕ → Type 0
-  Flying done node old new most = (most ≡ 0) ⊎ ((most ≡ 1) × ((run : IsRunUp config done node) × IsSingle run.0) × RoseAt faults old new 0)
+  Flying done node old new most = (most ≡ 0) ⊎ ((most ≡ 1) × ((run : IsRunUp config done node) × IsSingle config run.0) × RoseAt faults old new 0)
 
   -- a run that the device of a volume stopped has done nothing; one that the monitor trail's has may have left a commit in flight
   part-flying : (candidates : Option (List Candidate)) (items : List Item) (old new : List (Fuse D)) (done : List Outcome) (why : RunError) → IsCausedRun held faults config candidates items old new done why
@@ -619,7 +619,7 @@ module _ {D : Type 0} (held : D → Held) (faults : D → ℕ) (config : Config)
   abbrev pub TurnsFlying : List (Fuse D) → List (Fuse D) → Node → List Line → Node → Action → Type 0
   TurnsFlying old new node lines after done = IsIdle old new node lines after ⊎ ((most : ℕ) × Flying done node old new most × Turn most node lines after done)
 
-  run-turn : (phase : Phase) (node after : Node) (old new : List (Fuse D)) (lines : List Line) → IsSingle phase → KnowsList node.state node.candidates → (why : RunError) → (part : RunsPart held faults config phase node old lines after new why)
+  run-turn : (phase : Phase) (node after : Node) (old new : List (Fuse D)) (lines : List Line) → IsSingle config phase → KnowsList node.state node.candidates → (why : RunError) → (part : RunsPart held faults config phase node old lines after new why)
       → IsUndone held old new part.done ⊎ RoseFirst old new (run_in_flight why) → TurnsFlying old new node lines after (action.Run phase)
   run-turn phase node after old new lines single knows why part (inl undone) =
       inl (record { silent = part.printed ∙ ap (outcome_lines config) undone.0; same = undone.1; formatted = ap (λ (s : NodeState). s.formatted) part.state })

@@ -83,7 +83,7 @@ module _ {D : Type 0} (kind : disk.Ghosts D) (config : Config) (old new : List (
 
 -- WHAT A RUN MAKES OF A NODE THAT IS UP
 
-module _ {D : Type 0} (kind : disk.Ghosts D) (config : Config) (phase : Phase) (old new : List (Fuse D)) (state : NodeState) (up : Up) (may : up_for config phase state ≡ Some up) (multi : ¬ IsSingle phase) (valid : IsValidConfig config) (is_phase : IsValidPhase config phase)
+module _ {D : Type 0} (kind : disk.Ghosts D) (config : Config) (phase : Phase) (old new : List (Fuse D)) (state : NodeState) (up : Up) (may : up_for config phase state ≡ Some up) (multi : ¬ IsSingle config phase) (valid : IsValidConfig config) (is_phase : IsValidPhase config phase)
     (tell : DevicesTell kind.tells old) (result : Result (List Outcome) PhaseError) (bay : RunsBay kind config phase up.epoch result old new) (candidates : Option (List Candidate)) (knows : Knows kind.held config (node_of state candidates) old) where
   abbrev held : D → Held
   held = kind.held

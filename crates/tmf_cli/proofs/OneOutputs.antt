@@ -293,7 +293,7 @@ module _ {D : Type 0} (held : D → Held) (faults : D → ℕ) (config : Config)
   recover-same node a b s old new other_old other_new lines other single q r u v (inr (inr (formatted, refused))) second = absurd (never-refused node a s old new lines single q u refused)
   recover-same node a b s old new other_old other_new lines other single q r u v (inr (inl whole)) (inr (inr (formatted, refused))) = absurd (never-refused node b s other_old other_new other single r v refused)
 
-  run-same : (phase : Phase) (node a b : Node) (s : Candidate) (old new other_old other_new : List (Fuse D)) (lines other : List Line) → IsSingle phase → IsOne node.candidates s
+  run-same : (phase : Phase) (node a b : Node) (s : Candidate) (old new other_old other_new : List (Fuse D)) (lines other : List Line) → IsSingle config phase → IsOne node.candidates s
       → Runs held faults config phase node old lines a new → Runs held faults config phase node other_old other b other_new → Same lines other a b
   run-same phase node a b s old new other_old other_new lines other worker single (inl (down, is, left, same)) (inl (down_too, is_too, left_too, same_too)) =
       (is ∙ sym is_too, left ∙ sym left_too, (s, ap (λ (n : Node). n.candidates) left ∙ single))
@@ -388,7 +388,7 @@ module _ {D : Type 0} (held : D → Held) (faults : D → ℕ) (config : Config)
       subst (λ n. IsCleared (held_at held new n)) (sym here) (λ file within. own file))
       (λ other. subst IsCleared (sym (ap (λ o. option_map_or (λ f. held (device_of f)) o (λ m. None)) (same (dump_device v) other))) (none v declared)) (same_or_other (dump_device v) (volume_device volume))
 
-  dumps-kept : (done : Action) (node after : Node) (s : Candidate) (old new : List (Fuse D)) (lines : List Line) → IsSingleAction done → IsOne node.candidates s → NoneRose faults old new → AreUnspent lines → Does held faults config done node old lines after new
+  dumps-kept : (done : Action) (node after : Node) (s : Candidate) (old new : List (Fuse D)) (lines : List Line) → IsSingleAction config done → IsOne node.candidates s → NoneRose faults old new → AreUnspent lines → Does held faults config done node old lines after new
       → HaveNoDumps held config old → HaveNoDumps held config new
   dumps-kept action.Format node after s old new lines worker single q u (inl (is, left, gone)) none = gone
   dumps-kept action.Format node after s old new lines worker single q u (inr (failed, left)) none = absurd (q failed.0 failed.1.1)
@@ -406,7 +406,7 @@ module _ {D : Type 0} (held : D → Held) (faults : D → ℕ) (config : Config)
   dumps-kept (action.List file) node after s old new lines worker single q u (inl (down, is, left, same)) none = subst (HaveNoDumps held config) (sym same) none
   dumps-kept (action.List file) node after s old new lines worker single q u (inr (up, left, hold, how)) none = dumps-held old new hold none
 
-  does-same : (done : Action) (node a b : Node) (s : Candidate) (old new other_old other_new : List (Fuse D)) (lines other : List Line) → IsSingleAction done → IsOne node.candidates s → NoneRose faults old new → NoneRose faults other_old other_new → AreUnspent lines → AreUnspent other
+  does-same : (done : Action) (node a b : Node) (s : Candidate) (old new other_old other_new : List (Fuse D)) (lines other : List Line) → IsSingleAction config done → IsOne node.candidates s → NoneRose faults old new → NoneRose faults other_old other_new → AreUnspent lines → AreUnspent other
       → HaveNoDumps held config old → HaveNoDumps held config other_old → Does held faults config done node old lines a new → Does held faults config done node other_old other b other_new → Same lines other a b
   does-same action.Format node a b s old new other_old other_new lines other worker single q r u v none none_too (inl one) (inl two) =
       (one.0 ∙ sym two.0, one.1 ∙ sym two.1, (_, ap (λ (n : Node). n.candidates) one.1))
@@ -432,7 +432,7 @@ module _ {D : Type 0} (held : D → Held) (faults : D → ℕ) (config : Config)
   back-unspent [] ys all = all
   back-unspent (x ∷ xs) ys all = back-unspent xs ys all.1
 
-  told-same : (actions : List Action) (node a b : Node) (s : Candidate) (old new other_old other_new : List (Fuse D)) (lines other : List Line) → AreSingle actions → IsOne node.candidates s
+  told-same : (actions : List Action) (node a b : Node) (s : Candidate) (old new other_old other_new : List (Fuse D)) (lines other : List Line) → AreSingle config actions → IsOne node.candidates s
       → HaveNoDumps held config old → HaveNoDumps held config other_old → ToldBy held faults config actions node old lines a new → NoneRose faults old new → AreUnspent lines → ToldBy held faults config actions node other_old other b other_new → NoneRose faults other_old other_new → AreUnspent other → lines ≡ other
   told-same [] node a b s old new other_old other_new lines other workers single gone gone_too one q u two r v = one.0 ∙ sym two.0
   told-same (done ∷ rest) node a b s old new other_old other_new lines other workers single gone gone_too (first, more, middle, between, does, stands, counts, told, parts) q u (others, rest_of, centre, within, does_too, stands_too, counts_too, told_too, parts_too) r v =
@@ -476,7 +476,7 @@ the_output held faults script old new sink before after tells (rest, first) sing
   lines = whole.lines;
   given = whole.given tells;
   only = λ unspent candidates other_old other_new other left told quiet fresh.
-      one_output held faults script.config rest candidates None left whole.left other_old other_new old new other whole.lines (subst AreSingle first single).1
+      one_output held faults script.config rest candidates None left whole.left other_old other_new old new other whole.lines (subst (AreSingle script.config) first single).1
       (subst (λ actions. ToldBy held faults script.config actions (opening candidates) other_old other left other_new) first told) quiet fresh
       (subst (λ actions. ToldBy held faults script.config actions (opening None) old whole.lines whole.left new) first whole.told) none unspent;
 }

@@ -79,7 +79,7 @@ pub match-err : {T E : Type 0} (r : Result T E) (P : Type 0) (Q : E → Type 0) 
 match-err (Ok x) P Q both = tt
 match-err (Err error) P Q both = both
 
-module _ {D : Type 0} (kind : disk.Ghosts D) (config : Config) (phase : Phase) (old new : List (Fuse D)) (state : NodeState) (up : Up) (may : up_for config phase state ≡ Some up) (single : IsSingle phase) (valid : IsValidConfig config) (count : length old ≡ 21) (keeps : KeepsNode kind config old new)
+module _ {D : Type 0} (kind : disk.Ghosts D) (config : Config) (phase : Phase) (old new : List (Fuse D)) (state : NodeState) (up : Up) (may : up_for config phase state ≡ Some up) (single : IsSingle config phase) (valid : IsValidConfig config) (count : length old ≡ 21) (keeps : KeepsNode kind config old new)
     (items : List Item) (are : items ≡ items_of phase)
     (before outcomes : List Outcome) (none : before ≡ []) (added : AreAdded items up.epoch up.place before outcomes) where
   abbrev held : D → Held

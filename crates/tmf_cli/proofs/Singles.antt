@@ -5,10 +5,11 @@ use Rattle.std.specs.Bool.{Decides}
 use Rattle.std.specs.List.{AllByRecursion, list_all}
 use Rattle.std.proofs.Common.{true, false, ◌≡◌, ◌≤◌, ◌∷◌, [], Bool, List, length, refl}
 use Rattle.std.proofs.lemmas.Bool.Decides.{Decides-and}
+use Rattle.tmf_model.specs.declared.config.Config.{Config}
 use Rattle.tmf_model.specs.declared.script.Item.{Item}
 use Rattle.tmf_model.specs.declared.script.Item.TheVariants.{Transaction as TransactionItem, Control, Dump}
 use Rattle.tmf_model.specs.declared.script.Phase.{Phase}
-use Rattle.tmf_cli.specs.Single.{IsSingle, IsTransactionItem, is_transaction_item}
+use Rattle.tmf_cli.specs.Single.{IsSingle, IsTransactionItem, is_transaction_item, default_steps}
 
 item-decides : (item : Item) → Decides (is_transaction_item item) (IsTransactionItem item)
 item-decides (TransactionItem transaction) = ((λ e. tt), (λ is. refl))
@@ -28,5 +29,5 @@ none-of None is = refl
 none-of (Some x) is = absurd (cc is)
 
 -- a run whose parts are so is single
-pub single-true : (phase : Phase) → phase.kill ≡ None → length phase.workers ≤ 1 → list_all (list_all is_transaction_item) phase.workers ≡ true → IsSingle phase
-single-true phase uncut few all = record { uncut = uncut; few = few; items = (workers-decide phase.workers).0 all }
+pub single-true : (config : Config) (phase : Phase) → default_steps ≤ config.steps → phase.kill ≡ None → length phase.workers ≤ 1 → list_all (list_all is_transaction_item) phase.workers ≡ true → IsSingle config phase
+single-true config phase unlowered uncut few all = record { unlowered = unlowered; uncut = uncut; few = few; items = (workers-decide phase.workers).0 all }

@@ -182,7 +182,7 @@ among-epoch epoch (x ∷ rest) o are (inr among) = among-epoch epoch rest o are.
 -- A RUN IS ADDED
 
 -- With records of which each is of an outcome, where each transaction that is told as committed has its own at its place, it is extended by the run.
-pub extend-threads : (config : Config) (phase : Phase) (epoch : ℕ) (s : Candidate) (outcomes : List Outcome) (records : List MonitorRecord) → ¬ IsSingle phase → epoch ≡ epoch_of s.list → AreOutcomesOf phase epoch outcomes
+pub extend-threads : (config : Config) (phase : Phase) (epoch : ℕ) (s : Candidate) (outcomes : List Outcome) (records : List MonitorRecord) → ¬ IsSingle config phase → epoch ≡ epoch_of s.list → AreOutcomesOf phase epoch outcomes
     → ((item : MonitorRecord) → Contains records item → IsRecordOf outcomes item)
     → ((o : Outcome) (place : ℕ) (reads : List (ℕ × Option (List ℕ))) → Contains outcomes o → o.told ≡ told.Committed place reads → (length s.list < place) × (slice_get (s.list ++ records) (place - 1) ≡ Some (Commit o.tx)))
     → Extends config 0 (epoch_of s.list) (suc (epoch_of (s.list ++ records))) (record { epoch = epoch; phase = phase } ∷ []) (run_lines config outcomes) s (with_records phase epoch records s)
@@ -209,7 +209,7 @@ extend-threads config phase epoch s outcomes records many same attempts each lan
     }
 
 -- What stands in the records that have landed stands in the list at its place, also with those behind them that were offered.
-module _ (config : Config) (phase : Phase) (epoch : ℕ) (s : Candidate) (outcomes : List Outcome) (after : Option (List Candidate)) (many : ¬ IsSingle phase) (same : epoch ≡ epoch_of s.list) (attempts : AreOutcomesOf phase epoch outcomes)
+module _ (config : Config) (phase : Phase) (epoch : ℕ) (s : Candidate) (outcomes : List Outcome) (after : Option (List Candidate)) (many : ¬ IsSingle config phase) (same : epoch ≡ epoch_of s.list) (attempts : AreOutcomesOf phase epoch outcomes)
     (goes : GoesOn phase epoch outcomes s after) where
   placed : (more records : List MonitorRecord) → records ≡ goes.landed ++ more → (o : Outcome) (place : ℕ) (reads : List (ℕ × Option (List ℕ))) → Contains outcomes o → o.told ≡ told.Committed place reads
       → (length s.list < place) × (slice_get (s.list ++ records) (place - 1) ≡ Some (Commit o.tx))

@@ -18,13 +18,13 @@ use Rattle.tmf_cli.specs.OutputLaw.{BarsRuns, Breaks, Does, MayStand, Node, Runs
 
 module _ {D : Type 0} (held : D → Held) (faults : D → ℕ) (config : Config) where
   -- no such run is whole
-  bars-whole : (phase : Phase) (node after : Node) (old new : List (Fuse D)) (lines : List Line) → IsSingle phase → (up_for config phase node.state ≡ None → ⊥) → BarsRuns config (held_at held old) (items_of phase) → Runs held faults config phase node old lines after new → ⊥
+  bars-whole : (phase : Phase) (node after : Node) (old new : List (Fuse D)) (lines : List Line) → IsSingle config phase → (up_for config phase node.state ≡ None → ⊥) → BarsRuns config (held_at held old) (items_of phase) → Runs held faults config phase node old lines after new → ⊥
   bars-whole phase node after old new lines single up bars (inl (not_up, printed, same, devices)) = up not_up
   bars-whole phase node after old new lines single up bars (inr (inl (is, whole, dumps))) = whole.unbarred bars
   bars-whole phase node after old new lines single up bars (inr (inr (many, how))) = many single
 
   -- and one that is broken off has done nothing
-  bars-part : (phase : Phase) (node after : Node) (old new : List (Fuse D)) (lines : List Line) (why : RunError) → IsSingle phase → (up_for config phase node.state ≡ None → ⊥) → BarsRuns config (held_at held old) (items_of phase)
+  bars-part : (phase : Phase) (node after : Node) (old new : List (Fuse D)) (lines : List Line) (why : RunError) → IsSingle config phase → (up_for config phase node.state ≡ None → ⊥) → BarsRuns config (held_at held old) (items_of phase)
       → Breaks held faults config why (action.Run phase) node old lines after new → (lines ≡ []) × HoldSame held old new
   bars-part phase node after old new lines why single up bars (inl (memory, not_up, none, is)) = absurd (up not_up)
   bars-part phase node after old new lines why single up bars (inr (inr (many, memory, how))) = absurd (many single)

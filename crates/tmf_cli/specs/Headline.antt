@@ -44,9 +44,9 @@ meaning_in (run ∷ runs) tx = if tx.epoch == run.epoch then script_transaction 
 abbrev pub AreOf : List Action → List RunDone → Type 0
 AreOf actions runs = AllByRecursion (λ run. Contains actions (action.Run run.phase)) runs
 
--- each of the runs is single: of one worker, of transactions alone, and not cut off
-abbrev pub AreSingleRuns : List RunDone → Type 0
-AreSingleRuns runs = AllByRecursion (λ run. IsSingle run.phase) runs
+-- each of the runs is single: of one worker, of transactions alone, not cut off, and with no lowered limit of its events
+abbrev pub AreSingleRuns : Config → List RunDone → Type 0
+AreSingleRuns config runs = AllByRecursion (λ run. IsSingle config run.phase) runs
 
 -- the runs are of rising epochs, the first from `low` on and all below `high`
 abbrev pub AreRising : ℕ → ℕ → List RunDone → Type 0
@@ -108,7 +108,7 @@ pub record Extends (config : Config) (most low high : ℕ) (runs : List RunDone)
   pub few : length in_flight ≤ most
   pub no_other : (tx : Transid) → Contains records (Commit tx) → Contains (acknowledged lines) tx ⊎ Contains (doubted lines) tx ⊎ Contains in_flight tx
   -- where each run is single, they are those that the lines acknowledge, in their order, and then those in flight
-  pub in_order : AreSingleRuns runs → commits_of records ≡ acknowledged lines ++ in_flight
+  pub in_order : AreSingleRuns config runs → commits_of records ≡ acknowledged lines ++ in_flight
   -- each acknowledged one is new, and stands at its place
   pub places : (tx : Transid) (place : ℕ) → Contains lines (Committed tx place) → (length s.list < place) × (slice_get t.list (place - 1) ≡ Some (Commit tx))
   -- the map is the fold of the script's transactions over the new commits
@@ -204,12 +204,12 @@ abbrev pub MayBeInFlight : {D : Type 0} → (D → Held) → (D → ℕ) → Scr
 MayBeInFlight held faults script candidates status old new lines left most =
     (most ≡ 0)
     ⊎ ((most ≡ 1) × (status ≢ 0) × ((ends : EndsIn held faults script.config (opening candidates) script.actions old new) × EndsWith ends lines left
-    × ((run : IsRunUp script.config ends.reaches.action ends.reaches.middle) × IsSingle run.0) × RoseAt faults ends.reaches.between new 0))
+    × ((run : IsRunUp script.config ends.reaches.action ends.reaches.middle) × IsSingle script.config run.0) × RoseAt faults ends.reaches.between new 0))
 
 -- The action is a single run of a node that was up, with each volume that its items name, and by what labels and trails said before it a disc was spent: the run is refused, unless memory lacks or a
 -- device fails first.
 abbrev pub IsRefusedRun : {D : Type 0} → (D → Held) → Config → Action → Node → List (Fuse D) → Type 0
-IsRefusedRun held config action node devices = (run : IsRunUp config action node) × IsSingle run.0 × BarsRuns config (held_at held devices) (items_of run.0)
+IsRefusedRun held config action node devices = (run : IsRunUp config action node) × IsSingle config run.0 × BarsRuns config (held_at held devices) (items_of run.0)
 
 -- A run in which a script ended has done nothing: the devices hold what they held before it, it has no line of an outcome, and whatever a crash leaves of them stands as it did behind the
 -- actions before it, with no commit in flight.

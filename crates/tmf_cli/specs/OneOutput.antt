@@ -27,7 +27,7 @@ AreUnspent lines = AllByRecursion (λ line. line ≡ EpochsSpent → ⊥) lines
 abbrev pub OneOutput : {D : Type 0} → (D → Held) → (D → ℕ) → Config → Type 0
 OneOutput {D} held faults config =
     (actions : List Action) (candidates other_candidates : Option (List Candidate)) (after other_after : Node) (old new other_old other_new : List (Fuse D)) (lines other : List Line)
-    → AreSingle actions → ToldBy held faults config (Format ∷ actions) (opening candidates) old lines after new → NoneRose faults old new → AreUnspent lines
+    → AreSingle config actions → ToldBy held faults config (Format ∷ actions) (opening candidates) old lines after new → NoneRose faults old new → AreUnspent lines
     → ToldBy held faults config (Format ∷ actions) (opening other_candidates) other_old other other_after other_new → NoneRose faults other_old other_new → AreUnspent other
     → lines ≡ other
 

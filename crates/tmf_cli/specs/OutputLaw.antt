@@ -457,8 +457,8 @@ module _ {D : Type 0} (held : D → Held) (faults : D → ℕ) (config : Config)
   abbrev pub Runs : Phase → Node → List (Fuse D) → List Line → Node → List (Fuse D) → Type 0
   Runs phase node old lines after new =
       ((up_for config phase node.state ≡ None) × (lines ≡ NotUp asked.Run ∷ []) × (after ≡ node) × (new ≡ old))
-      ⊎ (IsSingle phase × RunsWhole held config phase node old lines after × MakesNoDump held config old new)
-      ⊎ ((¬ IsSingle phase) × (RunsOnThreads held faults config phase node old lines after new ⊎ RunsNot held faults config phase node old lines after new))
+      ⊎ (IsSingle config phase × RunsWhole held config phase node old lines after × MakesNoDump held config old new)
+      ⊎ ((¬ IsSingle config phase) × (RunsOnThreads held faults config phase node old lines after new ⊎ RunsNot held faults config phase node old lines after new))
 
   -- A volume is lost, also of a node that is down: its device has no file. Or the device has failed in the action.
   abbrev pub Loses : ℕ → Node → List (Fuse D) → List Line → Node → List (Fuse D) → Type 0
@@ -508,8 +508,8 @@ module _ {D : Type 0} (held : D → Held) (faults : D → ℕ) (config : Config)
   Breaks why (Recover kill) node old lines after new = (why ≡ DeviceStopped NoMemory) × (lines ≡ []) × (after ≡ stopped_node node)
   Breaks why (Run phase) node old lines after new =
       ((why ≡ DeviceStopped NoMemory) × (up_for config phase node.state ≡ None) × (lines ≡ []) × (after ≡ node))
-      ⊎ (IsSingle phase × RunsPart held faults config phase node old lines after new why)
-      ⊎ ((¬ IsSingle phase) × (why ≡ DeviceStopped NoMemory) × BreaksOnThreads held faults config phase node old lines after new)
+      ⊎ (IsSingle config phase × RunsPart held faults config phase node old lines after new why)
+      ⊎ ((¬ IsSingle config phase) × (why ≡ DeviceStopped NoMemory) × BreaksOnThreads held faults config phase node old lines after new)
   Breaks why (Lose volume) node old lines after new = (why ≡ DeviceStopped NoMemory) × (lines ≡ []) × (after ≡ node) × (new ≡ old)
   Breaks why (Rollforward volume kill) node old lines after new = (why ≡ DeviceStopped NoMemory) × (lines ≡ []) × (after ≡ node) × HoldSame held old new
   Breaks why (ListFile file) node old lines after new = (why ≡ DeviceStopped NoMemory) × (lines ≡ []) × (after ≡ node)

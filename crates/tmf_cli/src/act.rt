@@ -225,7 +225,7 @@ fn act_run<R: Threads + Wait + Sync, D: Disk + Send>(
         return (ran, bay);
     };
     *state = state.down();
-    if is_single(phase) {
+    if is_single(config, phase) {
         return act_single(means.alloc, config, up, bay, phase, lines);
     }
     let (made, bay) = act_threads(means, config, up, bay, phase);

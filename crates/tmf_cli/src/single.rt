@@ -1,4 +1,4 @@
-//! Runs of one worker, whose items are transactions, and which are not cut off.
+//! Runs of one worker, whose items are transactions, which are not cut off, and whose limit of events no line of the script lowers.
 ghost use Rattle.std.specs.Prelude.{◌≡◌, ◌≤◌, ◌^◌, ℕ, [], List, Option, Some, Err, IfErr, OnOk};
 ghost use Rattle.std.specs.Bool.{Decides};
 ghost use Rattle.std.specs.List.{list_all};
@@ -20,6 +20,9 @@ use std::alloc::Global;
 use tmf_lines::Line;
 use tmf_model::{Config, Item, Phase, Sequence};
 use volume_recovery::volumes::lowered_law;
+
+/// The most events of one part in one run where no line `steps` sets another limit. A run of one worker has fewer.
+const DEFAULT_STEPS: u64 = 1_000_000;
 
 /// Whether the item is a transaction.
 fn is_transaction(item: &Item) -> bool
@@ -47,10 +50,13 @@ fn are_all_transactions(workers: &[Sequence<Item>]) -> bool
         .all(|items| are_transactions(items.as_slice()))
 }
 
-/// Whether the run is of one worker or none, whose items are transactions, and is not cut off.
-pub fn is_single(phase: &Phase) -> bool
-    ensures { Decides result (IsSingle phase.now) }
+/// Whether the run is of one worker or none, whose items are transactions, is not cut off, and no line `steps` lowers the limit of its events.
+pub fn is_single(config: &Config, phase: &Phase) -> bool
+    ensures { Decides result (IsSingle config.now phase.now) }
 {
+    if config.steps < DEFAULT_STEPS {
+        return false;
+    }
     if phase.kill.is_some() {
         return false;
     }
@@ -93,7 +99,7 @@ pub fn act_single<D: Disk>(
 ) -> (Result<(), Stop>, Bay<D>)
     requires valid { IsValidConfig config.now }
     requires phase { IsValidPhase config.now phase.now }
-    requires single { IsSingle phase.now }
+    requires single { IsSingle config.now phase.now }
     requires none { lines.old.items ≡ [] }
     requires place { up.place ≤ 2 ^ 63 }
     ensures done { (state : NodeState) (candidates : Option (List Candidate)) → up_for config.now phase.now state ≡ Some up → DevicesTell D.tells bay → Knows D.held config.now (node_of state candidates) bay

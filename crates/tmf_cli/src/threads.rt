@@ -89,9 +89,9 @@ pub fn act_threads<R: Threads + Wait + Sync, D: Disk + Send>(
     requires phase { IsValidPhase config.now phase.now }
     requires epoch { 1 ≤ up.epoch }
     requires off { IsOff bay }
-    ensures done { (state : NodeState) (candidates : Option (List Candidate)) → up_for config.now phase.now state ≡ Some up → ¬ IsSingle phase.now → DevicesTell D.tells bay → Knows D.held config.now (node_of state candidates) bay
+    ensures done { (state : NodeState) (candidates : Option (List Candidate)) → up_for config.now phase.now state ≡ Some up → ¬ IsSingle config.now phase.now → DevicesTell D.tells bay → Knows D.held config.now (node_of state candidates) bay
         → IfOk result.0 (λ lines. HasDone D.held D.faults config.now (RunAction phase.now) (node_of state candidates) bay lines.items (down state) result.1) }
-    ensures broken { (state : NodeState) (candidates : Option (List Candidate)) → up_for config.now phase.now state ≡ Some up → ¬ IsSingle phase.now → DevicesTell D.tells bay → Knows D.held config.now (node_of state candidates) bay
+    ensures broken { (state : NodeState) (candidates : Option (List Candidate)) → up_for config.now phase.now state ≡ Some up → ¬ IsSingle config.now phase.now → DevicesTell D.tells bay → Knows D.held config.now (node_of state candidates) bay
         → IfErr result.0 (λ stop. HasBroken D.held D.faults config.now (RunAction phase.now) (node_of state candidates) bay [] stop result.1) }
     ensures keeps { LeavesBay D.Disk config.now (phase.now.kill ≡ None) bay result.1 }
     ensures memory { IfErr result.0 (λ stop. stop ≡ Stop.NoMemory) }

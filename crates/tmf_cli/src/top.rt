@@ -252,7 +252,7 @@ pub fn tmf<R: Threads + Wait + Sync, S: Source, K: Sink, D: Disk + Send>(
 
     // Of a script that formats first, and whose runs are single, where no device fails and the status is 0, the output is the one that the script determines, whatever devices were handed in.
     ensures one_output { (script : Script) → are_accepted (map string_bytes words.now) ≡ true → IsScriptOf script (take read_limit (S.rest source.old)) → IsTrue (S.tells source.old) → IsTrue (K.tells sink.old)
-        → DevicesTell D.tells bay → FormatsFirst script → AreSingle script.actions → NoneRose D.faults bay result.1 → result.0 ≡ 0 → IsTheOutput D.held D.faults script (K.given sink.old) (K.given sink.new) }
+        → DevicesTell D.tells bay → FormatsFirst script → AreSingle script.config script.actions → NoneRose D.faults bay result.1 → result.0 ≡ 0 → IsTheOutput D.held D.faults script (K.given sink.old) (K.given sink.new) }
 
     // Completeness: where no device fails and the status is 0, and it is known what the devices that are handed in may stand for, or the script formats first, none of the lines that were
     // given tells of a fault: each action was carried out, or refused for what the node and its devices are, and each attempt of a run ended in a way that has no fault for its cause.

@@ -61,7 +61,7 @@ act_threads-made-requires-clause-epoch g c = λ _ _.
 pub returns-clause-done : goal.returns-clause-done
 returns-clause-done g c = λ candidates tell knows.
     let may : up_for c.args.config.now c.args.phase.now c.args.state.now ≡ Some c.in-Some.up = sym c.up_for.ensures ∙ search rules in
-    let multi : ¬ IsSingle c.args.phase.now = λ single. let is = c.is_single.ensures.1 single in let none = c.if-is_single.false in absurd (cc (sym is ∙ none)) in
+    let multi : ¬ IsSingle c.args.config.now c.args.phase.now = λ single. let is = c.is_single.ensures.1 single in let none = c.if-is_single.false in absurd (cc (sym is ∙ none)) in
     let H : List Line → NodeState → Type 0 = λ lines s. HasDone g.D.Disk.held g.D.Disk.faults c.args.config.now (RunAction c.args.phase.now) (node_of c.args.state.now candidates) c.args.bay lines s c.act_threads-made.result.1 in
     put-done (λ v. v.items) c.keep_lines.new.lines.items c.args.lines.now.items (λ lines. H lines c.down.result) c.act_threads-made.result.0 c.keep_lines.result c.keep_lines.ensures
     (subst (λ s. IfOk c.act_threads-made.result.0 (λ v. H v.items s)) (sym c.down.ensures) (c.act_threads-made.ensures.done c.args.state.now candidates may multi tell knows))
@@ -69,7 +69,7 @@ returns-clause-done g c = λ candidates tell knows.
 pub returns-clause-broken : goal.returns-clause-broken
 returns-clause-broken g c = λ candidates tell knows.
     let may : up_for c.args.config.now c.args.phase.now c.args.state.now ≡ Some c.in-Some.up = sym c.up_for.ensures ∙ search rules in
-    let multi : ¬ IsSingle c.args.phase.now = λ single. let is = c.is_single.ensures.1 single in let none = c.if-is_single.false in absurd (cc (sym is ∙ none)) in
+    let multi : ¬ IsSingle c.args.config.now c.args.phase.now = λ single. let is = c.is_single.ensures.1 single in let none = c.if-is_single.false in absurd (cc (sym is ∙ none)) in
     let B : List Line → Stop → Type 0 = λ lines stop. HasBroken g.D.Disk.held g.D.Disk.faults c.args.config.now (RunAction c.args.phase.now) (node_of c.args.state.now candidates) c.args.bay lines stop c.act_threads-made.result.1 in
     put-broken (λ v. v.items) c.keep_lines.new.lines.items c.args.lines.now.items B c.act_threads-made.result.0 c.keep_lines.result c.keep_lines.ensures c.requires.none
     (c.act_threads-made.ensures.broken c.args.state.now candidates may multi tell knows)

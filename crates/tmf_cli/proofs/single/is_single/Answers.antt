@@ -10,6 +10,6 @@ returns c =
     let workers = c.args.phase.now.workers in
     let few : length workers ≤ 1 = subst (λ n. n ≤ 1) c.len.ensures c.if-len-gt1.false in
     let asked = c.are_all_transactions.ensures ∙ ap (list_all (list_all is_transaction_item)) c.as_slice.ensures in (
-      (λ all. single-true c.args.phase.now (none-of c.args.phase.now.kill (search rules)) few (sym asked ∙ all)),
+      (λ all. single-true c.args.config.now c.args.phase.now (search rules) (none-of c.args.phase.now.kill (search rules)) few (sym asked ∙ all)),
       (λ single. asked ∙ (workers-decide workers).1 single.items),
     )
