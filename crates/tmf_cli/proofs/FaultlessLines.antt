@@ -10,8 +10,11 @@ use Rattle.disk_model.specs.declared.fuse.Fuse.{Fuse}
 use Rattle.tmf_model.specs.declared.config.Config.{Config}
 use Rattle.tmf_model.specs.declared.script.Action.{Action}
 use Rattle.tmf_model.specs.declared.script.Action.TheVariants as action
+use Rattle.tmf_model.specs.declared.script.Item.{Item}
+use Rattle.tmf_model.specs.declared.script.Item.TheVariants.{Transaction as TransactionItem, Dump}
 use Rattle.tmf_model.specs.declared.script.Phase.{Phase}
 use Rattle.tmf_model.specs.declared.transid.Transid.{Transid}
+use Rattle.trail_files.specs.declared.damage.Damage.{Damage}
 use Rattle.trail_files.specs.declared.monitor_record.MonitorRecord.{MonitorRecord}
 use Rattle.node_machine.specs.Deeds.{HasFailedFor}
 use Rattle.node_machine.specs.Same.{Among}
@@ -23,14 +26,15 @@ use Rattle.rollforward.specs.declared.errors.RollError.{RollError}
 use Rattle.rollforward.specs.declared.errors.RollError.TheVariants as roll
 use Rattle.run_outcomes.specs.Devices.{devices, fuse_kind, monitor_device, part_of_device}
 use Rattle.run_outcomes.specs.Ends.{times_failed}
-use Rattle.run_outcomes.specs.Run.{account_of}
-use Rattle.run_outcomes.specs.Told.{Account, HasDeviceFailed, IsTold}
+use Rattle.run_outcomes.specs.Run.{account_of, volumes_of_item}
+use Rattle.run_outcomes.specs.Told.{Account, HasDeviceFailed, IsDamaged, IsTold, item_of}
 use Rattle.run_outcomes.specs.declared.outcome.Hang.TheVariants as hang
 use Rattle.run_outcomes.specs.declared.outcome.Outcome.{Outcome as RunOutcome}
 use Rattle.run_outcomes.specs.declared.outcome.PhaseError.{PhaseError}
 use Rattle.run_outcomes.specs.declared.outcome.PhaseError.TheVariants as phase_error
 use Rattle.run_outcomes.specs.declared.outcome.Told.{Told}
 use Rattle.run_outcomes.specs.declared.outcome.Told.TheVariants as told
+use Rattle.run_standing.specs.NodeUp.{IsNodeUp}
 use Rattle.run_standing.specs.Telling.{telling}
 use Rattle.volume_recovery.specs.declared.errors.RecoverError.{RecoverError}
 use Rattle.volume_recovery.specs.declared.errors.RecoverError.TheVariants as recovery
@@ -56,6 +60,7 @@ use Rattle.tmf_cli.proofs.Extending.{all-append}
 use Rattle.tmf_cli.proofs.Faultless.{failed-times, rose-from, rose-within, same-length, times-rose}
 use Rattle.tmf_cli.proofs.Headlines.{all-drop, all-map}
 use Rattle.tmf_cli.proofs.OneOutputs.{rose-later, told-falls}
+use Rattle.tmf_cli.proofs.Unbroken.{attempt-item, item-named, undamaged}
 
 -- LINES
 
@@ -92,11 +97,13 @@ faultless-outcomes : (config : Config) (outcomes : List Outcome) → AreFaultles
 faultless-outcomes config [] = tt
 faultless-outcomes config (o ∷ rest) = all-append IsFaultless (end_lines config o.tx o.end) (outcome_lines config rest) (faultless-end config o.tx o.end) (faultless-outcomes config rest)
 
--- an attempt or item of a run on threads that no failed call has ended
+-- an attempt or item of a run on threads that neither a failed call nor damage has ended
 abbrev IsFaultlessTold : Told → Type 0
 IsFaultlessTold (told.Failed device) = ⊥
+IsFaultlessTold (told.Damaged device damage) = ⊥
 IsFaultlessTold (told.InDoubt device) = ⊥
 IsFaultlessTold (told.Hanging (hang.Device device)) = ⊥
+IsFaultlessTold (told.Hanging (hang.Damaged device damage)) = ⊥
 IsFaultlessTold _ = Unit {0}
 
 faultless-spent : (tx : Transid) (part : PartName) → AreFaultless (spent_line tx part ∷ [])
@@ -111,10 +118,10 @@ faultless-told config tx (told.Full file key) fine = (tt, tt)
 faultless-told config tx (told.Refused op reason) fine = (tt, tt)
 faultless-told config tx (told.Spent part) fine = faultless-spent tx (part_name config part)
 faultless-told config tx (told.Failed device) fine = absurd fine
-faultless-told config tx (told.Damaged device damage) fine = (tt, tt)
+faultless-told config tx (told.Damaged device damage) fine = absurd fine
 faultless-told config tx (told.InDoubt device) fine = absurd fine
 faultless-told config tx (told.Hanging (hang.Device device)) fine = absurd fine
-faultless-told config tx (told.Hanging (hang.Damaged device damage)) fine = (tt, tt)
+faultless-told config tx (told.Hanging (hang.Damaged device damage)) fine = absurd fine
 faultless-told config tx (told.Hanging hang.Memory) fine = (tt, tt)
 faultless-told config tx told.Skipped fine = (tt, tt)
 faultless-told config tx told.Memory fine = (tt, tt)
@@ -127,18 +134,26 @@ faultless-run config [] each = tt
 faultless-run config (o ∷ rest) each =
     all-append IsFaultless (told_lines config o.tx o.told) (run_lines config rest) (faultless-told config o.tx o.told (each o (inl refl))) (faultless-run config rest (λ other there. each other (inr there)))
 
--- an outcome by an account in which no call for it has failed
-unfailed : (account : Account) (tx : Transid) (tells : Told) → ((device : ℕ) → HasDeviceFailed account device tx → ⊥) → IsTold account (record { tx = tx; told = tells }) → IsFaultlessTold tells
-unfailed account tx (told.Failed device) never (inl is) = never device is.2
-unfailed account tx (told.Failed device) never (inr (inl is)) = never device is.2.0
-unfailed account tx (told.Failed device) never (inr (inr is)) = never device is.2.0
-unfailed account tx (told.InDoubt device) never (inl is) = never monitor_device is.2.4
-unfailed account tx (told.InDoubt device) never (inr (inl is)) = absurd is.2
-unfailed account tx (told.InDoubt device) never (inr (inr is)) = absurd is.2
-unfailed account tx (told.Hanging (hang.Device device)) never (inl is) = never device is.2.1
-unfailed account tx (told.Hanging (hang.Device device)) never (inr (inl is)) = absurd is.2
-unfailed account tx (told.Hanging (hang.Device device)) never (inr (inr is)) = absurd is.2
-unfailed account tx _ never is = tt
+-- an outcome by an account in which no call for it has failed, and no volume of its item is damaged
+module _ (account : Account) (tx : Transid) (never : (device : ℕ) → HasDeviceFailed account device tx → ⊥)
+    (whole : (item : Item) → item_of account.phase tx ≡ Some item → (device : ℕ) (damage : Damage) → IsDamaged account (volumes_of_item account.config item) device damage → ⊥) where
+  unharmed : (tells : Told) → IsTold account (record { tx = tx; told = tells }) → IsFaultlessTold tells
+  unharmed (told.Failed device) (inl is) = never device is.2
+  unharmed (told.Failed device) (inr (inl is)) = never device is.2.0
+  unharmed (told.Failed device) (inr (inr is)) = never device is.2.0
+  unharmed (told.Damaged device damage) (inl is) = whole (TransactionItem is.0) (attempt-item account.phase account.epoch tx is.0 is.1) device damage is.2
+  unharmed (told.Damaged device damage) (inr (inl is)) = absurd is.2
+  unharmed (told.Damaged device damage) (inr (inr is)) = whole (Dump is.0) is.1 device damage is.2.0
+  unharmed (told.InDoubt device) (inl is) = never monitor_device is.2.4
+  unharmed (told.InDoubt device) (inr (inl is)) = absurd is.2
+  unharmed (told.InDoubt device) (inr (inr is)) = absurd is.2
+  unharmed (told.Hanging (hang.Device device)) (inl is) = never device is.2.1
+  unharmed (told.Hanging (hang.Device device)) (inr (inl is)) = absurd is.2
+  unharmed (told.Hanging (hang.Device device)) (inr (inr is)) = absurd is.2
+  unharmed (told.Hanging (hang.Damaged device damage)) (inl is) = whole (TransactionItem is.0) (attempt-item account.phase account.epoch tx is.0 is.1) device damage is.2.1
+  unharmed (told.Hanging (hang.Damaged device damage)) (inr (inl is)) = absurd is.2
+  unharmed (told.Hanging (hang.Damaged device damage)) (inr (inr is)) = absurd is.2
+  unharmed _ is = tt
 
 -- WHAT IS KNOWN STAYS KNOWN
 
@@ -153,6 +168,12 @@ known-done config up phase (Some standings) after done known is = (_, is.3)
 known-gone-on : (config : Config) (phase : Phase) (epoch : ℕ) (held : ℕ → Held) (outcomes : List RunOutcome) (candidates after : Option (List Candidate)) → IsKnown candidates → OneGoesOn config phase epoch held outcomes candidates after → IsKnown after
 known-gone-on config phase epoch held outcomes None after known is = absurd (none-some known.0 known.1)
 known-gone-on config phase epoch held outcomes (Some standings) after known is = (_, is.3.candidates)
+
+-- and then the node was up with what the devices stood for
+up-with : (config : Config) (phase : Phase) (epoch : ℕ) (held : ℕ → Held) (outcomes : List RunOutcome) (candidates after : Option (List Candidate)) → IsKnown candidates → OneGoesOn config phase epoch held outcomes candidates after
+    → (s : Candidate) × IsNodeUp config held s.list s.map epoch
+up-with config phase epoch held outcomes None after known is = absurd (none-some known.0 known.1)
+up-with config phase epoch held outcomes (Some standings) after known is = (is.0, is.2)
 
 -- ONE ACTION
 
@@ -194,10 +215,14 @@ module _ {D : Type 0} (held : D → Held) (faults : D → ℕ) (config : Config)
   threads-fine : (phase : Phase) (node after : Node) (old new : List (Fuse D)) (lines : List Line) → length old ≡ devices → NoneFalls faults old new → IsKnown node.candidates → NoneRose faults old new
       → RunsOnThreads held faults config phase node old lines after new → IsFine lines after
   threads-fine phase node after old new lines count falls known quiet run =
-      let account : Account = account_of (fuse_kind (telling held faults)) config phase run.up.epoch (λ number. slice_get run.opened number) run.ran.found run.ran.log in (
+      let account : Account = account_of (fuse_kind (telling held faults)) config phase run.up.epoch (λ number. slice_get run.opened number) run.ran.found run.ran.log in
+      let up = up-with config phase run.up.epoch (held_at held run.opened) run.outcomes node.candidates after.candidates known run.stands in (
         subst AreFaultless (sym run.printed)
             (faultless-run config run.outcomes (λ o there.
-            unfailed account o.tx o.told (λ device failed. never-failed phase node after old new lines run count falls quiet device o.tx failed.0 failed.1) (run.ran.told.each o there).told)),
+            unharmed account o.tx (λ device failed. never-failed phase node after old new lines run count falls quiet device o.tx failed.0 failed.1)
+            (λ item is device damage damaged.
+            undamaged held faults config phase run.up.epoch run.opened up.0.list up.0.map up.1 run.present account refl (volumes_of_item config item) (λ v among. item-named config phase o.tx item v is among) device damage damaged)
+            o.told (run.ran.told.each o there).told)),
         known-gone-on config phase run.up.epoch (held_at held run.opened) run.outcomes node.candidates after.candidates known run.stands,
       )
 

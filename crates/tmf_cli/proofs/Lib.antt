@@ -26,6 +26,7 @@ pub mod Statuses
 pub mod ThreadRuns
 pub mod Endings
 pub mod OnThreads
+pub mod Unbroken
 pub mod Undamaged
 pub mod Undone
 pub mod VolumeLoss

@@ -12,7 +12,8 @@ use Rattle.keyed_file.specs.Volume.{IsLost}
 use Rattle.one_worker.specs.RunLaw.{IsUp}
 use Rattle.one_worker.specs.declared.stop.RunError.TheVariants as run
 use Rattle.run_outcomes.specs.Devices.{AreReturned, IsUntouched, fuse_kind}
-use Rattle.run_outcomes.specs.Run.{HasNotRun, HasRun, IsUnfit}
+use Rattle.node_machine.specs.Same.{Among}
+use Rattle.run_outcomes.specs.Run.{HasNotRun, HasRun, IsUnfit, volumes_named}
 use Rattle.run_outcomes.specs.declared.outcome.Outcome.{Outcome}
 use Rattle.run_outcomes.specs.declared.outcome.PhaseError.{PhaseError}
 use Rattle.run_outcomes.specs.declared.outcome.PhaseError.TheVariants as phase_error
@@ -34,7 +35,7 @@ use Rattle.volume_recovery.specs.VolumeNode.{volume_device}
 use Rattle.tmf_cli.specs.declared.node.NodeState.{NodeState}
 use Rattle.tmf_cli.specs.declared.node.Up.{Up}
 use Rattle.tmf_cli.specs.BetweenActions.{HasBroken, HasDone, IfUp, IsReady, Knows, RestsUp, SameOthers, node_of}
-use Rattle.tmf_cli.specs.Lost.{up_for, workers_name_lost}
+use Rattle.tmf_cli.specs.Lost.{IsPresent, up_for, workers_name_lost}
 use Rattle.tmf_cli.specs.OutputLaw.{Candidate, IsRunLine, IsUnrunFor, MayStand, OneGoesOn, RunsOnThreads, down, with_records}
 use Rattle.tmf_cli.specs.RunLines.{run_lines}
 use Rattle.tmf_cli.specs.Single.{IsSingle}
@@ -43,7 +44,7 @@ use Rattle.tmf_cli.proofs.Acts.{stands-same}
 use Rattle.tmf_cli.proofs.Bays.{held-same, images-same}
 use Rattle.tmf_cli.proofs.Countdowns.{rose-later, switched-falls, switched-holds, switched-tells}
 use Rattle.tmf_cli.proofs.Losses.{lost-alike, lost-both, number-within, unless-some}
-use Rattle.tmf_cli.proofs.Naming.{named-unlost}
+use Rattle.tmf_cli.proofs.Naming.{named-declared, named-unlost}
 use Rattle.tmf_cli.proofs.Resting.{up-ready}
 
 -- WHAT COMES BACK
@@ -116,6 +117,16 @@ module _ {D : Type 0} (kind : disk.Ghosts D) (config : Config) (phase : Phase) (
   node-up : (s : Candidate) → IsUp config (held_at held old) s.list s.map up.epoch up.place → IsNodeUp config (held_at held opened) s.list s.map up.epoch
   node-up s is = subst (λ h. IsNodeUp config h s.list s.map up.epoch) (sym same_opened) (record { rests = is.rests; lowered = is.lowered; begun = (is.front, is.begun); unused = is.unused })
 
+  -- each volume that the run names is there
+  present : (volume : ℕ) → Among (volumes_named config phase) volume → IsPresent config (held_at held opened) volume
+  present volume among =
+      let one = named-declared config phase valid is_phase volume among in
+      record {
+        line = one.0;
+        number = one.1;
+        found = λ gone. named-unlost config (held_at held old) up.lost phase valid is_phase ready.lost found.1 volume among (subst (λ (h : ℕ → Held). IsLost (h (volume_device volume))) same_opened gone);
+      }
+
   -- the images have lost what was lost before
   left-lost : (s : Candidate) (outcomes : List Outcome) → HasMade phase up.epoch held config s.list s.map outcomes opened closed → lost_among (held_at held old) (length config.volumes) ≡ s.lost
       → (images : ℕ → Held) → AreImages held closed images → lost_among images (length config.volumes) ≡ s.lost
@@ -164,6 +175,7 @@ module _ {D : Type 0} (kind : disk.Ghosts D) (config : Config) (phase : Phase) (
         off = bay.off;
         outcomes = outcomes;
         ran = telling_law config phase up.epoch opened closed outcomes tell_opened has;
+        present = present;
         fit = λ device damage unfit. fit device damage unfit;
         stands = left.1;
         printed = printed;
@@ -209,7 +221,7 @@ module _ {D : Type 0} (kind : disk.Ghosts D) (config : Config) (phase : Phase) (
     unknown law device damage is None rests = refl
     unknown law device damage is (Some standings) (ready, s, one, on, lost) =
         absurd (law config phase up.epoch opened s.list s.map device damage valid (node-up s on)
-        (λ volume among gone. named-unlost config (held_at held old) up.lost phase valid is_phase ready.lost found.1 volume among (subst (λ (h : ℕ → Held). IsLost (h (volume_device volume))) same_opened gone))
+        (λ volume among gone. (present volume among).found gone)
         (not_run.damaged device damage (λ n fuse le there. tell_opened n fuse there) is))
 
     -- why no worker has begun

@@ -8,13 +8,12 @@ use Rattle.tmf_model.specs.declared.script.Action.{Action}
 use Rattle.tmf_model.specs.declared.script.Action.TheVariants.{Format}
 use Rattle.run_outcomes.specs.Devices.{devices}
 use Rattle.tmf_lines.specs.declared.line.Line.{Line}
-use Rattle.tmf_lines.specs.declared.line.Line.TheVariants.{AttemptFailed, Damaged, DumpsFailed, Failed, Hanging, InDoubt, ListDamaged, ListFailed, LoseFailed, RollDamaged, RollFailed, RunDamaged, RunFailed, Stopped}
+use Rattle.tmf_lines.specs.declared.line.Line.TheVariants.{AttemptDamaged, AttemptFailed, Damaged, DumpsFailed, Failed, Hanging, HangingDamaged, InDoubt, ListDamaged, ListFailed, LoseFailed, RollDamaged, RollFailed, RunDamaged, RunFailed, Stopped}
 use Rattle.tmf_lines.specs.Line.{lines_text}
 use Rattle.tmf_cli.specs.OneOutput.{NoneRose}
 use Rattle.tmf_cli.specs.OutputLaw.{Candidate, Node, ToldBy}
 
--- The line tells of no device that failed, and of none that is damaged. Damage that an attempt of a run on threads met is not shut out: the law of the output does not say that the volumes
--- which the run names have their bases at its opening.
+-- the line tells of no device that failed, and of none that is damaged
 abbrev pub IsFaultless : Line → Type 0
 IsFaultless (Failed action name) = ⊥
 IsFaultless (DumpsFailed volume) = ⊥
@@ -27,8 +26,10 @@ IsFaultless (ListDamaged file name damage) = ⊥
 IsFaultless (RunFailed device) = ⊥
 IsFaultless (RunDamaged device damage) = ⊥
 IsFaultless (AttemptFailed tx device) = ⊥
+IsFaultless (AttemptDamaged tx device damage) = ⊥
 IsFaultless (InDoubt tx device) = ⊥
 IsFaultless (Hanging tx device) = ⊥
+IsFaultless (HangingDamaged tx device damage) = ⊥
 IsFaultless (Stopped name trouble) = ⊥
 IsFaultless _ = Unit {0}
 
@@ -46,7 +47,7 @@ BeginsWithFormat actions = (rest : List Action) × (actions ≡ Format ∷ rest)
 
 -- Of the devices of a bay none has failed, and it is known what they may stand for, or a format makes it known: then no line tells of a fault. Each action that is not told as not up is carried
 -- out, but for a recovery whose epochs are spent, and a rollforward of a volume that is not lost or has no dump; and an attempt or item of a run has come to what it was to do, or was refused,
--- taken back, left out, turned away, or ended by a limit, for want of memory or by damage.
+-- taken back, left out, turned away, or ended by a limit or for want of memory.
 abbrev pub FaultlessLaw : {D : Type 0} → (D → Held) → (D → ℕ) → Config → Type 0
 FaultlessLaw {D} held faults config =
     (actions : List Action) (before after : Node) (old new : List (Fuse D)) (lines : List Line) → length old ≡ devices → IsKnown before.candidates ⊎ BeginsWithFormat actions

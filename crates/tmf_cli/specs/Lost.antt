@@ -2,6 +2,7 @@
 use Rattle.std.specs.Prelude.{◌≡◌, ℕ, ◌-◌, ◌==◌, ◌||◌, Bool, false, if◌then◌else◌, List, [], ◌∷◌, filter, length, map, slice_get, slice_set, Option, Some, None, option_map, unwrap_or}
 use Rattle.std.specs.List.{list_any}
 use Rattle.disk_model.specs.Held.{Held}
+use Rattle.keyed_file.specs.Volume.{IsLost}
 use Rattle.tmf_model.specs.declared.config.Config.{Config}
 use Rattle.tmf_model.specs.declared.config.Volume.{Volume}
 use Rattle.tmf_model.specs.declared.script.Item.{Item}
@@ -76,3 +77,9 @@ up_for config phase state = unless (λ up. workers_name_lost config up.lost phas
 -- the node for a listing: it is up, and so is the file's volume
 abbrev pub up_with : Config → ℕ → NodeState → Option Up
 up_with config file state = unless (λ up. is_lost_volume up.lost (volume_on config file)) state.up
+
+-- The volume is one of the configuration's, and is not lost.
+pub record IsPresent (config : Config) (held : ℕ → Held) (volume : ℕ) : Type 0 where
+  pub line : Volume
+  pub number : IsNumber config.volumes volume line
+  pub found : IsLost (held (volume_device volume)) → ⊥

@@ -51,7 +51,8 @@ use Rattle.tmf_cli.specs.Countdown.{KeepsCounts, Switches, kill_of}
 use Rattle.tmf_cli.specs.Outcomes.{outcome_lines}
 use Rattle.tmf_cli.specs.RunLines.{run_lines}
 use Rattle.run_outcomes.specs.Devices.{fuse_kind}
-use Rattle.run_outcomes.specs.Run.{HasNotRun, HasRun as HasRunOnThreads, IsUnfit}
+use Rattle.node_machine.specs.Same.{Among}
+use Rattle.run_outcomes.specs.Run.{HasNotRun, HasRun as HasRunOnThreads, IsUnfit, volumes_named}
 use Rattle.run_outcomes.specs.Told.{IsRecordOf}
 use Rattle.run_outcomes.specs.declared.outcome.Outcome.{Outcome as RunOutcome}
 use Rattle.run_outcomes.specs.declared.outcome.PhaseError.{PhaseError}
@@ -61,7 +62,7 @@ use Rattle.run_standing.specs.Made.{HasCommitted, map_behind}
 use Rattle.run_standing.specs.NodeUp.{IsNodeUp}
 use Rattle.run_standing.specs.Telling.{telling}
 use Rattle.trail_files.specs.declared.damage.Damage.{Damage as DamageAt}
-use Rattle.tmf_cli.specs.Lost.{is_lost_volume, none_lost, lost_flags, lost_with, up_for, up_with, with_volume}
+use Rattle.tmf_cli.specs.Lost.{IsPresent, is_lost_volume, none_lost, lost_flags, lost_with, up_for, up_with, with_volume}
 
 -- this is so of one of them
 abbrev pub OneOf : {T : Type 0} → (T → Type 0) → List T → Type 0
@@ -280,7 +281,7 @@ OneGoesOn config phase epoch held outcomes None after = after ≡ None
 OneGoesOn config phase epoch held outcomes (Some standings) after =
     (s : Candidate) × OneOf (λ t. t ≡ s) standings × IsNodeUp config held s.list s.map epoch × GoesOn phase epoch outcomes s after
 
--- A run on threads is whole: the node was up, and each volume that an item names; no device was unfit; its outcomes are those of one history, which shows what is left of the devices; it prints them, and takes the
+-- A run on threads is whole: the node was up, and each volume that an item names was there; no device was unfit; its outcomes are those of one history, which shows what is left of the devices; it prints them, and takes the
 -- node down. The countdown may have been switched on before it, and off behind it.
 pub record RunsOnThreads {D : Type 0} (held : D → Held) (faults : D → ℕ) (config : Config) (phase : Phase) (node : Node) (old : List (Fuse D)) (lines : List Line) (after : Node) (new : List (Fuse D)) : Type 0 where
   pub up : Up
@@ -291,6 +292,7 @@ pub record RunsOnThreads {D : Type 0} (held : D → Held) (faults : D → ℕ) (
   pub off : Switches closed new
   pub outcomes : List RunOutcome
   pub ran : HasRunOnThreads (fuse_kind (telling held faults)) config phase up.epoch opened closed outcomes
+  pub present : (volume : ℕ) → Among (volumes_named config phase) volume → IsPresent config (held_at held opened) volume
   pub fit : (device : ℕ) (damage : DamageAt) → IsUnfit (fuse_kind (telling held faults)) config phase up.epoch opened device damage → ⊥
   pub stands : OneGoesOn config phase up.epoch (held_at held opened) outcomes node.candidates after.candidates
   pub printed : lines ≡ run_lines config outcomes

@@ -19,7 +19,7 @@ pub fn headline_law<D: Disk>(config: &Config)
 {}
 
 /// Where it is known what the devices may stand for, or the first action is a format, and no device fails, no line tells of a fault: each action is carried out, or is refused for what the node
-/// and its devices are; and each attempt and item of a run ends as it was to, or by another attempt, a limit, or want of memory. Damage that an attempt of a run on threads met is not shut out.
+/// and its devices are; and each attempt and item of a run ends as it was to, or by another attempt, a limit, or want of memory.
 pub fn faultless_law<D: Disk>(config: &Config)
     ensures { FaultlessLaw D.held D.faults config.now }
 {}
