@@ -12,7 +12,7 @@ ghost use Rattle.audit_writer.specs.Drains.{Drains};
 ghost use Rattle.audit_writer.specs.Handing.{MayHand, Takes, disc_of, last_of};
 ghost use Rattle.audit_writer.specs.Locked.{HasFailed, IsFlushStop};
 ghost use Rattle.audit_writer.specs.Purge.{HasPurged, HasPurgeStopped, HasRemoved};
-ghost use Rattle.audit_writer.specs.Writer.{IsWriter, with_bounds};
+ghost use Rattle.audit_writer.specs.Writer.{IsWriter, Writer, with_bounds};
 ghost use Rattle.audit_writer.specs.Writes.{HasTold, HasUpTo, HasWritten, IsRaised, Writes};
 
 use crate::name::DeviceRun;
@@ -87,7 +87,7 @@ impl<'a, D: Disk, J: DeviceRun<D>, const N: u8> WriterAt<'a, D, J, N> {
         requires may { records.now ≢ [] → MayHand J.opening J.found (J.rules N) N disc.old (disc_of records.now) records.now }
         ensures takes { MatchResult result (λ _. Takes self.old.state self.new.state) (λ _. (self.new.state ≡ self.old.state) × (disc.new ≡ disc.old)) }
         ensures has { OnOk result (records.now ≢ [] → HasUpTo self.new.state (disc_of records.now) (last_of records.now)) }
-        ensures none { records.now ≡ [] → IsOk result × (disc.new ≡ disc.old) }
+        ensures none { records.now ≡ [] → IsOk result × (self.new.state ≡ self.old.state) × (disc.new ≡ disc.old) }
         ensures grown { HasGrown disc.old disc.new }
         ensures learned { HasLearned node J.opening disc.old disc.new }
     {
@@ -99,6 +99,7 @@ impl<'a, D: Disk, J: DeviceRun<D>, const N: u8> WriterAt<'a, D, J, N> {
         ensures told { HasTold self.old.state self.new.state }
         ensures grown { HasGrown caller.old caller.new }
         ensures learned { HasLearned node J.opening caller.old caller.new }
+        ensures same { caller.new.seen ≡ self.new.state.seat.sight.seen }
     {
         self.state.meet(caller);
     }
@@ -205,13 +206,11 @@ impl<'a, D: Disk, J: DeviceRun<D>> AuditWriter<'a, D, J> {
     pub fn meet<R: Wait>(&self, rt: &R, caller: &mut Seat<NodeMachine, J>)
         ensures grown { HasGrown caller.old caller.new }
         ensures learned { HasLearned node J.opening caller.old caller.new }
+        ensures same { (w : Writer D) × IsWriter D.Disk J.opening J.found J.rules J.faults J.premise J.devices w × (w.seat.part.number ≡ number_of self.now) × (caller.new.seen ≡ w.seat.sight.seen) }
     {
-        match self {
-            AuditWriter::One(lock) => lock.lock(rt).meet(caller),
-            AuditWriter::Two(lock) => lock.lock(rt).meet(caller),
-            AuditWriter::Three(lock) => lock.lock(rt).meet(caller),
-            AuditWriter::Four(lock) => lock.lock(rt).meet(caller),
-        }
+        let mut writer = self.lock(rt);
+        writer.meet(caller);
+        writer.lawful();
     }
 
     /// The number of the part's events, or 2^64 - 1 where there are more. The caller has then seen them.
@@ -336,7 +335,7 @@ impl<'g, 'a, D: Disk, J: DeviceRun<D>> WriterGuard<'g, 'a, D, J> {
         ensures all { OnOk result (records.now ≢ [] → (held_writer self.new).queue ≡ []) }
         ensures events { MatchResult result (λ _. HasWritten (held_writer self.old) (held_writer self.new)) (IsFlushStop by (held_writer self.old) (held_writer self.new)) }
         ensures durable { OnOk result (records.now ≢ [] → Knows node J.opening disc.new (Durable (disc_of records.now) (last_of records.now))) }
-        ensures none { records.now ≡ [] → IsOk result × (disc.new ≡ disc.old) }
+        ensures none { records.now ≡ [] → IsOk result × (held_writer self.new ≡ held_writer self.old) × (disc.new ≡ disc.old) }
         ensures grown { HasGrown disc.old disc.new }
         ensures learned { HasLearned node J.opening disc.old disc.new }
         ensures failed { IfErr result (HasFailed (held_number self.old) by disc.old disc.new) }
@@ -359,7 +358,7 @@ impl<'g, 'a, D: Disk, J: DeviceRun<D>> WriterGuard<'g, 'a, D, J> {
         requires may { records.now ≢ [] → MayHand J.opening J.found (J.rules (held_number self.old)) (held_number self.old) disc.old (disc_of records.now) records.now }
         ensures takes { MatchResult result (λ _. Takes (held_writer self.old) (held_writer self.new)) (λ _. (held_writer self.new ≡ held_writer self.old) × (disc.new ≡ disc.old)) }
         ensures has { OnOk result (records.now ≢ [] → HasUpTo (held_writer self.new) (disc_of records.now) (last_of records.now)) }
-        ensures none { records.now ≡ [] → IsOk result × (disc.new ≡ disc.old) }
+        ensures none { records.now ≡ [] → IsOk result × (held_writer self.new ≡ held_writer self.old) × (disc.new ≡ disc.old) }
         ensures grown { HasGrown disc.old disc.new }
         ensures learned { HasLearned node J.opening disc.old disc.new }
         ensures number { held_number self.new ≡ held_number self.old }
@@ -377,6 +376,7 @@ impl<'g, 'a, D: Disk, J: DeviceRun<D>> WriterGuard<'g, 'a, D, J> {
         ensures told { HasTold (held_writer self.old) (held_writer self.new) }
         ensures grown { HasGrown caller.old caller.new }
         ensures learned { HasLearned node J.opening caller.old caller.new }
+        ensures same { caller.new.seen ≡ (held_writer self.new).seat.sight.seen }
         ensures number { held_number self.new ≡ held_number self.old }
     {
         match self {

@@ -323,7 +323,8 @@ impl<'a, D: Disk, J: DeviceRun<D>, Q: QueueName, const N: u8> QueuedWriter<'a, D
         self.end.hear(receipt);
     }
 
-    /// Hands a disc's records in, takes in what the queue has, and lands all. It says whether the queue was seen empty.
+    /// Hands a disc's records in, takes in what the queue has, and lands all. It says whether the queue was seen empty; then it has all of which it
+    /// was told that it was pushed. Where there are no records it looks at nothing.
     pub fn flush(
         &mut self,
         disc: &mut Seat<NodeMachine, J>,
@@ -332,6 +333,7 @@ impl<'a, D: Disk, J: DeviceRun<D>, Q: QueueName, const N: u8> QueuedWriter<'a, D
     ) -> Result<bool, FlushRefused>
         requires may { records.now ≢ [] → MayHand J.opening J.found (J.rules N) N disc.old (disc_of records.now) records.now }
         ensures kept { Drains D.Disk self.old.writer self.new.writer × IsSameEnd self.old.end self.new.end }
+        ensures told { records.now ≢ [] → IfOk result (λ empty. empty ≡ true → HasAllTold self.new) }
         ensures all { OnOk result (records.now ≢ [] → self.new.writer.queue ≡ []) }
         ensures events { MatchResult result (λ _. HasWritten self.old.writer self.new.writer) (IsFlushStop by self.old.writer self.new.writer) }
         ensures durable { OnOk result (records.now ≢ [] → Knows node J.opening disc.new (Durable (disc_of records.now) (last_of records.now))) }
@@ -362,6 +364,7 @@ impl<'a, D: Disk, J: DeviceRun<D>, Q: QueueName, const N: u8> QueuedWriter<'a, D
         ensures kept { Drains D.Disk self.old.writer self.new.writer × IsSameEnd self.old.end self.new.end }
         ensures all { OnOk result (self.new.writer.queue ≡ []) }
         ensures events { MatchResult result (λ _. HasWritten self.old.writer self.new.writer) (λ e. (e ≡ FlushRefused.Failed N) × HasStopped by self.old.writer self.new.writer) }
+        ensures told { IfOk result (λ empty. empty ≡ true → HasAllTold self.new) }
         ensures durable { OnOk result (Knows node J.opening caller.new (Durable disc position)) }
         ensures grown { HasGrown caller.old caller.new }
         ensures learned { HasLearned node J.opening caller.old caller.new }

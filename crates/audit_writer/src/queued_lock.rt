@@ -11,6 +11,7 @@ ghost use Rattle.node_machine.specs.Trail.{trail_of};
 ghost use Rattle.audit_writer.specs.Handing.{MayHand, disc_of, last_of};
 ghost use Rattle.audit_writer.specs.Locked.{HasFailed};
 ghost use Rattle.audit_writer.specs.Parcels.{Has, IsReached, MayPush, WasFull, all_discs, has_pushed_to, holding, told_by, without_disc};
+ghost use Rattle.audit_writer.specs.Writer.{IsWriter, Writer};
 
 use crate::lock::FlushRefused;
 use crate::name::DeviceRun;
@@ -193,8 +194,11 @@ impl<'a, D: Disk, J: DeviceRun<D>, Q: QueueName, const N: u8> QueuedLock<'a, D, 
     pub fn meet<R: Wait>(&self, rt: &R, caller: &mut Seat<NodeMachine, J>)
         ensures grown { HasGrown caller.old caller.new }
         ensures learned { HasLearned node J.opening caller.old caller.new }
+        ensures same { (w : Writer D) × IsWriter D.Disk J.opening J.found J.rules J.faults J.premise J.devices w × (w.seat.part.number ≡ N) × (caller.new.seen ≡ w.seat.sight.seen) }
     {
-        self.lock.lock(rt).meet(caller);
+        let mut writer = self.lock.lock(rt);
+        writer.meet(caller);
+        writer.lawful();
     }
 
     /// The number of the part's events, or 2^64 - 1 where there are more. The caller has then seen them.

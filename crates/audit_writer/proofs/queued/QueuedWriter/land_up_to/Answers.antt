@@ -1,9 +1,9 @@
-use Rattle.std.proofs.Common.{refl, arith}
+use Rattle.std.proofs.Common.{ap, refl, arith}
 use Rattle.node_machine.specs.declared.event.Event.TheVariants.{OfTrail}
 use Rattle.node_machine.specs.declared.event.TrailEvent.TheVariants.{Failed}
 use Rattle.node_machine.specs.Opening.{trail_part}
 use Rattle.audit_writer.proofs.Locks.{newly_then}
-use Rattle.audit_writer.proofs.Tying.{drains_then, drains_writes, end_same, end_then, up_drains}
+use Rattle.audit_writer.proofs.Tying.{drains_then, drains_writes, end_same, end_then, told_drains, up_drains}
 use Rattle.audit_writer.proofs.Written.{stopped_then, written_then}
 use Rattle.audit_writer.proofs.queued.QueuedWriter.land_up_to.Goals as goal
 
@@ -32,3 +32,9 @@ returns-in-Err-clause-events g c = (refl, stopped_then c.args.by c.args.self.now
 
 pub returns-in-Ok-flush_to-clause-events : goal.returns-in-Ok-flush_to-clause-events
 returns-in-Ok-flush_to-clause-events g c = written_then c.args.self.now.writer c.flush_queue.new.self.writer c.flush_to.new.self.writer c.in-Ok.ensures.events c.in-Ok-flush_to.ensures.events
+
+pub returns-in-Ok-flush_to-clause-told : goal.returns-in-Ok-flush_to-clause-told
+returns-in-Ok-flush_to-clause-told g c = λ yes.
+    let b = c.flush_queue.new.self in
+    let e = c.flush_to.new.self in
+    told_drains g.D.Disk b e (drains_writes b.writer e.writer g.D.Disk c.flush_to.ensures.kept) (ap (λ x. x.pass.told) c.flush_to.ensures.end) (c.in-Ok.ensures.told yes)
