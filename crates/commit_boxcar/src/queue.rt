@@ -1,5 +1,5 @@
 //! The queue of requests in front of the monitor's lock, its rule, and the passes of it.
-ghost use Rattle.std.specs.Prelude.{◌≡◌, ◌∷◌, [], Some, None, IfOk, IfErr, IfSome, MatchOption, MatchResult};
+ghost use Rattle.std.specs.Prelude.{◌≡◌, ◌∷◌, [], length, Some, None, IfOk, IfErr, IfSome, MatchOption, MatchResult};
 ghost use Rattle.crossbeam_queue.specs.SegTies.{IsSegPassOf};
 ghost use Rattle.node_machine.specs.Monitor.{ended_by};
 ghost use Rattle.commit_boxcar.specs.Requests.{ArePopped, HasFoundEmpty, IsAsFar, IsCovered, IsDue, IsOf, asking, asking_for, that_heard, last_push, workers_from};
@@ -342,7 +342,7 @@ impl<J: NodeRun, Q: RequestsName> Asker<J, Q> {
     }
 }
 
-/// The passes of all workers, each behind a lock of its own. Contracts see which queue they are of.
+/// The passes of all workers, each behind a lock of its own: there is one for each of the 17 workers. Contracts see which queue they are of.
 #[derive(Drop)]
 pub struct Askers<J: NodeRun, Q: RequestsName> {
     line: Arc<RequestQueue<J>, Global>,
@@ -350,7 +350,7 @@ pub struct Askers<J: NodeRun, Q: RequestsName> {
 }
 
 impl<J: NodeRun, Q: RequestsName> Model for Askers<J, Q> {
-    ghost use Rattle.std.specs.Prelude.{◌≡◌};
+    ghost use Rattle.std.specs.Prelude.{◌≡◌, length};
     ghost use Rattle.std.specs.Arc.{arc_value};
     ghost use Rattle.commit_boxcar.specs.Requests.{QueueId};
 
@@ -358,7 +358,7 @@ impl<J: NodeRun, Q: RequestsName> Model for Askers<J, Q> {
 
     ghost view = { λ a. (arc_value a.line).requests };
 
-    ghost invariant = { λ a. (arc_value a.line).requests ≡ Q.queue };
+    ghost invariant = { λ a. ((arc_value a.line).requests ≡ Q.queue) × (length a.locks.items ≡ 17) };
 }
 
 impl<J: NodeRun, Q: RequestsName> Askers<J, Q> {
@@ -451,6 +451,7 @@ fn locks_of<J: NodeRun, Q: RequestsName>(
     requires queue { line.now.requests ≡ Q.queue }
     requires own { IsSegPassOf Q.queue pass }
     requires all { pass.me.view.client ≡ asking_for (workers_from 0 17) }
+    ensures many { IfOk result (λ locks. length locks.items ≡ 17) }
 {
     let mut locks = Vec::with_capacity(alloc, usize::from(WORKERS))?;
     for worker in 0..WORKERS {

@@ -1,4 +1,5 @@
-use Rattle.std.proofs.Common.{ap, ◌∙◌, subst, arith, ◌-◌}
+use Rattle.std.proofs.Common.{◌+◌, length, ap, ◌∙◌, subst, arith, ◌-◌}
+use Rattle.std.proofs.lemmas.List.{length_push}
 use Rattle.crossbeam_queue.specs.SegTies.{IsSegPassOf}
 use Rattle.commit_boxcar.proofs.Ruled.{first_cut, forks_first, left_over, rest_cut}
 use Rattle.commit_boxcar.proofs.queue.locks_of.Goals as goal
@@ -18,4 +19,5 @@ loop-worker-preserved g c =
     let w = c.loop-worker.worker in (
       subst (λ q. IsSegPassOf q c.another-theirs.new.pass) c.requires.queue c.another-theirs.ensures.queue.0,
       c.another-theirs.ensures.rule.0 ∙ rest_cut _ w (16 - w) _ _ (left_over _ w (omega arith) c.loop-worker.invariant.1) (omega arith) (omega arith),
+      ap (λ l. length l) c.in_ok-push.ensures.items ∙ length_push _ _ ∙ ap (λ n. n + 1) c.loop-worker.invariant.2,
     )
