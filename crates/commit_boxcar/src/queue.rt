@@ -342,7 +342,7 @@ impl<J: NodeRun, Q: RequestsName> Asker<J, Q> {
     }
 }
 
-/// The passes of all workers, each behind a lock of its own: there is one for each of the 17 workers. Contracts see which queue they are of.
+/// The passes of all workers, each behind a lock of its own: there are 17. Contracts see which queue they are of.
 #[derive(Drop)]
 pub struct Askers<J: NodeRun, Q: RequestsName> {
     line: Arc<RequestQueue<J>, Global>,

@@ -36,7 +36,11 @@ impl<'a, D: Disk, J: DeviceRun<D>> DiscProcess<'a, D, J> {
     {
         let lock = Mutex::new(DiscAt::of(state, share));
         let landing = Mutex::new(());
-        DiscProcess { number, lock, landing }
+        DiscProcess {
+            number,
+            lock,
+            landing,
+        }
     }
 
     /// The number of its volume.
@@ -47,7 +51,7 @@ impl<'a, D: Disk, J: DeviceRun<D>> DiscProcess<'a, D, J> {
     }
 
     /// Takes the turn of landing the disc's audit for a commit. Who closes a transaction here within its turn lands the audit of all that wait
-    /// behind it, and these then find theirs landed. Nobody who holds the disc's lock waits for it.
+    /// for it at that moment, and these then find theirs landed. Nobody who holds the disc's lock waits for it.
     pub fn landing<'g, R: Wait>(&'g self, rt: &R) -> MutexGuard<'g, ()> {
         self.landing.lock(rt)
     }

@@ -63,8 +63,8 @@ impl<J: Run<Part>> DiscHand<J> {
     {
         let mut held = disc.lock(rt);
         if pace.is_due(held.events()) {
-            let _was_one = draw_first(rt, &mut held, disc.number(), trails, &mut self.note)?;
-            pace.drawn(held.events());
+            draw_first(rt, &mut held, disc.number(), trails, &mut self.note)?;
+            pace.note_draw(held.events());
         }
         Ok(())
     }

@@ -30,7 +30,7 @@ impl Pace {
     }
 
     /// Takes note of a draw, behind which the disc has had so many events. An idle disc stays idle.
-    pub(crate) fn drawn(&mut self, events: u64) {
+    pub(crate) fn note_draw(&mut self, events: u64) {
         self.drawn = events;
         self.seen = events;
     }

@@ -65,19 +65,19 @@ pub enum Line {
     Busy(Transid, Name, Key, Transid),
     /// An item of a run did not go on, since the part of this device has had as many events as a run may have, or its disc gives out no further position.
     Spent(Transid, DeviceName),
-    /// It did not, since the worker with this number has had as many.
+    /// An item of a run did not go on, since the worker with this number has had as many events.
     SpentWorker(Transid, u16),
-    /// It did not, since a call of the device failed.
+    /// An item of a run did not go on, since a call of the device failed.
     AttemptFailed(Transid, DeviceName),
-    /// It did not, since the device's bytes break a rule here.
+    /// An item of a run did not go on, since the device's bytes break a rule here.
     AttemptDamaged(Transid, DeviceName, Damage),
     /// A transaction's commit was decided, and a call of the device failed as it was recorded: it may stand or not.
     InDoubt(Transid, DeviceName),
     /// A transaction was not taken back, and keeps its locks up to the end of the run, since a call of the device failed.
     Hanging(Transid, DeviceName),
-    /// It does, since the device's bytes break a rule here.
+    /// A transaction was not taken back, since the device's bytes break a rule here.
     HangingDamaged(Transid, DeviceName, Damage),
-    /// It does, since memory ran out.
+    /// A transaction was not taken back, since memory ran out.
     HangingMemory(Transid),
     /// An item of a run was not begun, since an earlier one of its worker came to an end behind which there is no next one.
     Skipped(Transid),
@@ -87,7 +87,7 @@ pub enum Line {
     Controlled(Transid, Name, u64),
     /// The volume with this name has a dump, with this start.
     Dumped(Transid, Name, u64),
-    /// It has none of this item, since a dump of it was under way.
+    /// No dump of this volume was begun for the item, since another one was under way.
     Dumping(Transid, Name),
     /// A record of the monitor trail, with its place.
     Recorded(u64, MonitorRecord),
@@ -125,7 +125,7 @@ pub enum Line {
     Damaged(ActionKind, Name, Damage),
     /// No worker of a run has begun, since a call of the device failed.
     RunFailed(DeviceName),
-    /// None has, since the device's bytes break a rule here.
+    /// No worker of a run has begun, since the device's bytes break a rule here.
     RunDamaged(DeviceName, Damage),
     /// A recovery found no epoch behind the last one.
     EpochsSpent,
