@@ -1,4 +1,4 @@
-/* How few syncs a program needs that only appends: so many threads, each with so many transactions, of which each appends one audit record to
+/* How many syncs a program makes that only appends: so many threads, each with so many transactions, of which each appends one audit record to
    each of two trails, and then a commit record to the monitor trail. A batch goes out as the trails of tmf have it: its head behind a closed
    gate, its records and the next closed gate, a sync, the open gate, a sync. Whoever lands takes all that waits with it. Arguments: threads,
    transactions of each, a folder. It prints the syncs of all. */

@@ -37,7 +37,7 @@ took() {
 alone=$(took 1 4000)
 many=$(took 16 250)
 per_second() { awk -v us="$1" 'BEGIN { printf "%d", 4000 * 1000000 / us }'; }
-row "commits a second of one worker, 4,000 in memory" "$(commas "$(per_second "$alone")")" "150,000 are wanted"
+row "commits a second of one worker, 4,000 in memory" "$(commas "$(per_second "$alone")")" "$(commas "$(per_second "$many")") of 16 workers together"
 row "of 16 workers over two trails, 4,000 together" "$(commas "$(per_second "$many")")" "$(times_as "$alone" "$many") times that of one worker"
 
 command -v strace >/dev/null || { row "syncs of a commit over a folder" "not counted, since strace is not on the PATH"; exit 0; }
@@ -60,6 +60,6 @@ for workers in 4 16; do
     few=$(syncs "$workers" 10)
     more=$(syncs "$workers" 60)
     beside="gcc is not on the PATH"
-    [ ! -x "$room/floor" ] || beside="$(each "$(appends "$workers" 50)" $((50 * workers))) of a program of C that only appends and syncs the same records, with as many threads, in the same run"
+    [ ! -x "$room/floor" ] || beside="$(each "$(appends "$workers" 50)" $((50 * workers))) of a program of C that only appends and syncs records of the same lengths, with as many threads, in the same run"
     row "syncs of a commit over a folder, $workers workers" "$(each $((more - few)) $((50 * workers)))" "$beside"
 done

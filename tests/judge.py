@@ -74,12 +74,13 @@ def carried_out(steps, records):
 
 class Node:
     def __init__(self, files):
-        self.files, self.up, self.formatted, self.epoch, self.lost = files, False, True, 0, set()
+        self.files, self.up, self.epoch, self.lost = files, False, 0, set()
         self.list, self.records, self.printed, self.pending = [], {}, 0, None
-        self.known, self.loses = False, set()
+        # the volumes that a recovery has to find lost, those of which nobody can say it, and those that have a dump
+        self.gone, self.unsure, self.dumped, self.folds = set(), set(), set(), []
 
     # what the lines of a run say, kept until a recovery prints its records
-    def run(self, workers, lines):
+    def run(self, workers, lines, kill):
         outcomes, reads = {}, {}
         for worker, items in enumerate(workers, 1):
             ended = False
@@ -95,6 +96,10 @@ class Node:
                     need((told == "skipped") == ended, f"{line}: skipped and ended do not agree")
                     outcomes[tx] = (told, rest, item)
                     self.judge_kind(line, item, told, rest)
+                    need(kill or told not in ("failed", "indoubt", "hanging"), f"{line}: no call was cut off")
+                    need(told not in ("spent", "memory", "damaged"), f"{line}: there is no limit, and no want of memory")
+                    if told == "dumped":
+                        self.dumped.add(item[1])
                     if told == "committed":
                         reads[tx] = self.reads_of(lines, tx, item)
                     ended = ended or told in ENDING
@@ -147,12 +152,14 @@ class Node:
             self.printed += 1
             self.add(parts[2], parts[3], int(parts[1]))
         self.settle()
+        found = []
         while lines and lines[0].startswith("lost "):
-            self.loses.add(lines.pop(0).split()[1])
+            found.append(lines.pop(0).split()[1])
+        need(found == sorted(found) and self.gone <= set(found) <= self.gone | self.unsure, f"lost {found}: {self.gone} are, and {self.unsure} may be")
         need(lines and lines[0].startswith("recovered "), f"no line of the recovery: {lines[:1]}")
         epoch = int(lines.pop(0).split()[1])
         need(epoch > self.epoch, f"recovered {epoch}: behind {self.epoch}")
-        self.epoch, self.up, self.lost, self.loses = epoch, True, self.loses, set()
+        self.epoch, self.up, self.lost, self.gone, self.unsure = epoch, True, set(found), set(found), set()
 
     def add(self, kind, what, place):
         self.list.append((kind, what))
@@ -165,7 +172,8 @@ class Node:
         need(tx in outcomes, f"{place} {kind} {what}: of no outcome")
         told, rest, item = outcomes[tx]
         if kind == "abort":
-            need(told not in ("committed", "skipped"), f"{place} abort {what}: it was told as {told}")
+            need(told in ("aborted", "busy", "full", "refused", "failed", "indoubt", "hanging"), f"{place} abort {what}: it was told as {told}")
+            outcomes[tx] = ("taken back", rest, item) if told != "refused" else ("refused and taken back", rest, item)
             return
         need(told in ("committed", "indoubt"), f"{place} commit {what}: it was told as {told}")
         need(told == "indoubt" or int(rest) == place, f"{place} commit {what}: it was told to stand at {rest}")
@@ -176,15 +184,13 @@ class Node:
         need(told == "indoubt" or reads[tx] == done[1], f"{what}: it has read {reads.get(tx)}, and {done[1]} stands there")
         outcomes[tx] = ("landed", rest, item)
 
-    folds = []
-
-    # every acknowledged commit has its record; what was refused, was refused on some map between the commits
+    # every acknowledged commit has its record, and so has each attempt that was taken back; what was refused, was refused on some map between the commits
     def settle(self):
         if not self.pending:
             return
         for tx, (told, rest, item) in self.pending[0].items():
-            need(told != "committed", f"{tx} committed {rest}: no record")
-            if told == "refused":
+            need(told not in ("committed", "aborted", "busy", "full", "refused"), f"{tx} {told} {rest}: no record")
+            if told == "refused and taken back":
                 number, reason = rest.split(" ", 1)
                 need(any(carried_out(item[2], m)[1] == (int(number), reason) for m in [{}] + self.folds), f"{tx} refused {rest}: nowhere between the commits")
         self.pending = None
@@ -219,9 +225,10 @@ def act(node, action, lines):
             lines.pop(0)
             node.up = False
             return
-        node.run(what, lines)
+        node.run(what, lines, kill)
     elif kind == "lose":
         need(lines.pop(0) == f"lost {what}", f"lose {what}")
+        node.gone.add(what)
         node.up = False
     elif kind == "rollforward":
         line = lines.pop(0)
@@ -231,10 +238,13 @@ def act(node, action, lines):
             need(line == f"rollforward {what} not lost", line)
         elif line.startswith(f"rolled {what} "):
             node.lost.discard(what)
+            node.gone.discard(what)
         elif line == f"rollforward {what} no dump":
-            pass
+            need(what not in node.dumped, f"{line}: it has one")
         else:
             need(kill and line.startswith(f"rollforward {what} failed "), line)
+            node.gone.discard(what)
+            node.unsure.add(what)
             node.up = False
     elif kind == "list":
         if not node.up or node.files[what] in node.lost:

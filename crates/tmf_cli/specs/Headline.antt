@@ -103,7 +103,8 @@ pub record Extends (config : Config) (most low high : ℕ) (runs : List RunDone)
   -- the one list goes on
   pub records : List MonitorRecord
   pub list : t.list ≡ s.list ++ records
-  -- of its new commits each is one that the lines acknowledge or leave in doubt, or one of at most so many more that were in flight
+  -- of its new commits each is one that the lines acknowledge or leave in doubt, or one of at most so many more that were in flight; none stands twice, since a list that images spell ends no
+  -- attempt again
   pub in_flight : List Transid
   pub few : length in_flight ≤ most
   pub no_other : (tx : Transid) → Contains records (Commit tx) → Contains (acknowledged lines) tx ⊎ Contains (doubted lines) tx ⊎ Contains in_flight tx

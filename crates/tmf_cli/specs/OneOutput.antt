@@ -31,9 +31,13 @@ OneOutput {D} held faults config =
     → ToldBy held faults config (Format ∷ actions) (opening other_candidates) other_old other other_after other_new → NoneRose faults other_old other_new → AreUnspent other
     → lines ≡ other
 
--- the script's first action is a format
+-- the first of the actions is a format
+abbrev pub BeginsWithFormat : List Action → Type 0
+BeginsWithFormat actions = (rest : List Action) × (actions ≡ Format ∷ rest)
+
+-- so is that of a script
 abbrev pub FormatsFirst : Script → Type 0
-FormatsFirst script = (rest : List Action) × (script.actions ≡ Format ∷ rest)
+FormatsFirst script = BeginsWithFormat script.actions
 
 -- The sink was given the output that the script determines: whatever devices another call for this script has, where none of them fails, and no epochs are spent, the law of the output
 -- lets it print these lines alone.

@@ -294,6 +294,7 @@ pub record RunsOnThreads {D : Type 0} (held : D → Held) (faults : D → ℕ) (
   pub ran : HasRunOnThreads (fuse_kind (telling held faults)) config phase up.epoch opened closed outcomes
   pub present : (volume : ℕ) → Among (volumes_named config phase) volume → IsPresent config (held_at held opened) volume
   pub fit : (device : ℕ) (damage : DamageAt) → IsUnfit (fuse_kind (telling held faults)) config phase up.epoch opened device damage → ⊥
+  -- that these records are those of the history follows from the images, which both allow
   pub stands : OneGoesOn config phase up.epoch (held_at held opened) outcomes node.candidates after.candidates
   pub printed : lines ≡ run_lines config outcomes
   pub state : after.state ≡ down node.state

@@ -21,7 +21,7 @@ use tmf_lines::Line;
 use tmf_model::{Config, Item, Phase, Sequence};
 use volume_recovery::volumes::lowered_law;
 
-/// The most events of one part in one run where no line `steps` sets another limit. A run of one worker has fewer.
+/// The most events of one part in one run where no line `steps` sets another limit.
 const DEFAULT_STEPS: u64 = 1_000_000;
 
 /// Whether the item is a transaction.

@@ -1,4 +1,4 @@
-//! Rollforwards over a dump that is written by hand, since no line of a script makes one yet: a whole one, and ones that are cut off behind so many calls of the devices.
+//! Rollforwards over a dump that is written by hand: a whole one, and ones that are cut off behind so many calls of the devices.
 use super::{FIRST, NO_FAILS, NO_MORE, Ran, expect_over, printed, run, run_over, script_of};
 use disk_model::{Disk, DiskFault};
 use std::alloc::Global;
