@@ -1,7 +1,7 @@
 -- Where no device fails, no line tells of a fault: line by line, and action by action.
 use Rattle.std.specs.Prelude.{drop, map, slice_get}
 use Rattle.std.specs.List.{enumerate_from}
-use Rattle.std.proofs.Common.{◌≡◌, ◌<◌, ◌++◌, ◌∷◌, [], ℕ, List, length, Option, Some, None, refl, sym, ap, subst, ◌∙◌, inl, inr, arith}
+use Rattle.std.proofs.Common.{◌≡◌, ◌⊎◌, ◌<◌, ◌++◌, ◌∷◌, [], ℕ, List, length, Option, Some, None, refl, sym, ap, subst, ◌∙◌, inl, inr, arith}
 use Rattle.std.proofs.lemmas.Option.{none-some}
 use Rattle.disk_model.specs.Devices.{NoneFalls, held_at}
 use Rattle.disk_model.specs.Fuse.{fuse_faults}

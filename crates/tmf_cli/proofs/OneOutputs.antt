@@ -470,7 +470,7 @@ module _ {D : Type 0} (held : D → Held) (faults : D → ℕ) (config : Config)
       formatted node after old new lines quiet (inr (failed, left)) = absurd (quiet failed.0 failed.1.1)
 
 -- So an output is the only one that the law lets any other call print.
-pub the_output : {D : Type 0} (held : D → Held) (faults : D → ℕ) (script : Script) (old new : List (Fuse D)) (sink : Type 0) (before after : List ℕ) → sink → FormatsFirst script → AreSingle script.actions → NoneRose faults old new → (how : Status) → how ≡ status.Done
+pub the_output : {D : Type 0} (held : D → Held) (faults : D → ℕ) (script : Script) (old new : List (Fuse D)) (sink : Type 0) (before after : List ℕ) → sink → FormatsFirst script → AreSingle script.config script.actions → NoneRose faults old new → (how : Status) → how ≡ status.Done
     → Tells held faults script None how old new sink before after → IsTheOutput held faults script before after
 the_output held faults script old new sink before after tells (rest, first) single none how done told = record {
   lines = whole.lines;

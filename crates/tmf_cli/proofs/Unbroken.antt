@@ -106,10 +106,11 @@ module _ {D : Type 0} (held : D → Held) (faults : D → ℕ) (config : Config)
       absurd (there.found (λ f at. (none f at).1))
   based volume line number before was (Some base) is there = (
     base,
-    held_at held opened (volume_device volume),
-    told-there (slice_get opened (volume_device volume)) before was,
-    subst (HasBase config volume (held_at held opened (volume_device volume))) is (up.rests.stands.volumes_spelled volume line number),
-    up.rests.volumes_rest volume line number,
+    (
+      held_at held opened (volume_device volume),
+      told-there (slice_get opened (volume_device volume)) before was,
+      (subst (HasBase config volume (held_at held opened (volume_device volume))) is (up.rests.stands.volumes_spelled volume line number), up.rests.volumes_rest volume line number),
+    ),
   )
 
   unbroken : (volume : ℕ) → Among (volumes_named config phase) volume → (device : ℕ) → device ≡ volume_device volume → (damage : Damage) → IsBroken (fuse_kind (telling held faults)) config bay device damage → ⊥
@@ -121,6 +122,6 @@ module _ {D : Type 0} (held : D → Held) (faults : D → ℕ) (config : Config)
       broken.baseless base.0 base.1
 
   pub undamaged : (account : Account) → account.broken ≡ IsBroken (fuse_kind (telling held faults)) config bay → (volumes : List ℕ) → ((v : ℕ) → Among volumes v → Among (volumes_named config phase) v)
-      → (device : ℕ) (damage : Damage) → IsDamaged log_account volumes device damage → ⊥
+      → (device : ℕ) (damage : Damage) → IsDamaged account volumes device damage → ⊥
   undamaged account is volumes named device damage damaged =
       unbroken damaged.0.0 (named damaged.0.0 damaged.0.1) device damaged.0.2 damage (subst (λ (b : ℕ → Damage → Type 0). b device damage) is damaged.1)
