@@ -1,5 +1,5 @@
 -- The writer stays tied to its end of the queue.
-use Rattle.std.specs.Prelude.{ℕ, ◌<◌, ◌≤◌, ◌==◌, cond, Bool, List, [], ◌++◌, Option, Some, None, is_some, Result, Ok, Err, OnOk, OnErr}
+use Rattle.std.specs.Prelude.{ℕ, ◌<◌, ◌≤◌, ◌+◌, ◌-◌, ◌^◌, ◌==◌, cond, Bool, List, [], ◌++◌, MatchBool, Option, Some, None, is_some, Result, Ok, Err, OnOk, OnErr}
 use Rattle.std.proofs.Common.{◌≡◌, ◌⊎◌, true, false, arith, inl, inr, ⊎_elim, refl, ap, sym, ◌∙◌, subst, append_assoc, append-nil, eqb-true}
 use mathlib.Core.List.{IsPrefix}
 use Rattle.disk_model.specs.declared.disk.Disk as disk
@@ -13,7 +13,7 @@ use Rattle.node_machine.specs.Same.{Among}
 use Rattle.node_machine.specs.SameLaws.{among_left}
 use Rattle.audit_writer.specs.Drains.{AtQueue, IsTied, Drains, HasAllTold, at_queue}
 use Rattle.audit_writer.specs.Handing.{Takes, disc_of, last_of}
-use Rattle.audit_writer.specs.Parcels.{Packed, QueueEnd, Sharing, Follows, Has, IsAllPopped, IsSameEnd, reached, and_then, popping, with_told}
+use Rattle.audit_writer.specs.Parcels.{Packed, QueueEnd, Sharing, Follows, Has, HasMissed, HasTurned, IsAllPopped, IsSameEnd, reached, and_then, popping, with_told}
 use Rattle.audit_writer.specs.Writer.{Writer, handed_in}
 use Rattle.audit_writer.specs.Writes.{HasUpTo, HasRecordTo, HasTold, HasWritten, Writes, has_some}
 use Rattle.audit_writer.proofs.Kept.{keeps_then}
@@ -244,6 +244,39 @@ end_same v w e = record { queue = ap (λ (x : QueueEnd). x.queue) e; told = ap (
 
 pub end_then : (u v w : QueueEnd) → IsSameEnd u v → IsSameEnd v w → IsSameEnd u w
 end_then u v w p q = record { queue = q.queue ∙ p.queue; told = q.told ∙ p.told }
+
+pub turned_then : (a b c d : ℕ) (u v w : QueueEnd) → HasTurned a b u v → HasTurned c d v w → HasTurned (a + c) (b + d) u w
+turned_then a b c d u v w p q = λ low.
+    let last = q low in
+    let turns = last.0 in
+    let misses = last.1 in
+    let first = p (omega (arith, low, turns)) in
+    let turns_first = first.0 in
+    let misses_first = first.1 in
+    (omega (arith, turns, turns_first), omega (arith, misses, misses_first))
+
+pub turned_same : (v w : QueueEnd) → w ≡ v → HasTurned 0 0 v w
+turned_same v w e = λ low. (let turns = ap (λ (x : QueueEnd). x.turns) e in let misses = ap (λ (x : QueueEnd). x.misses) e in (omega (arith, turns), omega (arith, misses)))
+
+pub missed_same : (u v w : QueueEnd) → w ≡ v → HasMissed u v → HasMissed u w
+missed_same u v w e h = subst (λ (x : QueueEnd). HasMissed u x) (sym e) h
+
+-- a turn that found a parcel, behind others
+pub turned_on : (n : ℕ) (r : Bool) (u v w x : QueueEnd) → r ≡ true → x ≡ w → HasTurned n 0 u v → MatchBool r (HasTurned 1 0 v w) (HasTurned 1 1 v w) → HasTurned (n + 1) 0 u x
+turned_on n true u v w x is same p q = subst (λ (y : QueueEnd). HasTurned (n + 1) 0 u y) (sym same) (turned_then n 0 1 0 u v w p q)
+turned_on n false u v w x is same p q = cc (is)
+
+-- turns that found parcels, and the last one, which found none
+pub missed_after : (n : ℕ) (r : Bool) (u v w x : QueueEnd) → r ≡ false → x ≡ w → HasTurned n 0 u v → MatchBool r (HasTurned 1 0 v w) (HasTurned 1 1 v w) → HasMissed u x
+missed_after n false u v w x is same p q = missed_same u w x same (λ low. (turned_then n 0 1 1 u v w p q low).1)
+missed_after n true u v w x is same p q = cc (is)
+
+-- more turns than 64 bits count
+pub turned_out : (n : ℕ) (v w : QueueEnd) → 2 ^ 64 - 1 ≤ n → HasTurned n 0 v w → HasMissed v w
+turned_out n v w many p = λ low. (let is = p low in let turns = is.0 in absurd (omega (arith, low, turns, many)))
+
+pub missed_from : (u v w : QueueEnd) → v.misses ≡ u.misses → HasMissed v w → HasMissed u w
+missed_from u v w same h = λ low. (let misses = h low in omega (arith, same, misses))
 
 -- what the end was told changes nothing of what the writer has
 pub tied_heard : {D : Type 0} (w : Writer D) (held : Option Packed) (pass told : Sharing) → IsTied w held pass → IsTied w held (with_told pass told)

@@ -1,5 +1,5 @@
 -- What discs hand in without the writer's lock, and the rule of the queue that it goes through.
-use Rattle.std.specs.Prelude.{◌≡◌, ◌≢◌, ◌⊎◌, ◌==◌, ◌<◌, ◌≤◌, ◌+◌, ◌^◌, ℕ, max, cond, List, [], ◌∷◌, ◌++◌, length, Option, Some, None, MatchBool, MatchOption}
+use Rattle.std.specs.Prelude.{◌≡◌, ◌≢◌, ◌⊎◌, ◌==◌, ◌<◌, ◌≤◌, ◌+◌, ◌-◌, ◌^◌, ℕ, max, cond, List, [], ◌∷◌, ◌++◌, length, Option, Some, None, MatchBool, MatchOption}
 use mathlib.Core.Option.{some}
 use lib.ListN.{get_elem?}
 use Rattle.atomic_table.specs.Seated.{TableId}
@@ -197,19 +197,35 @@ pub record WasFull (v w : Holding) : Type 0 where
 abbrev pub IsReached : (Fact → Type 0) → Holding → Type 0
 IsReached known h = 0 < h.pushed → known (Durable h.disc h.pushed)
 
--- the writer's end of a queue: which queue it is, and its pass
+-- the writer's end of a queue: which queue it is, its pass, how often its writer has turned to it for a parcel, and how many of its pops found none,
+-- as far as 64 bits count
 pub record QueueEnd : Type 0 where
   pub queue : TableId
   pub pass : Sharing
+  pub turns : ℕ
+  pub misses : ℕ
 
+-- an end to which nobody has turned
 abbrev pub queue_end : TableId → Sharing → QueueEnd
-queue_end queue pass = record { queue = queue; pass = pass }
+queue_end queue pass = record { queue = queue; pass = pass; turns = 0; misses = 0 }
+
+-- the same end with another pass
+abbrev pub with_pass : Sharing → QueueEnd → QueueEnd
+with_pass pass e = record e { pass = pass }
 
 -- it was told that the disc's parcels were pushed up to this position
 abbrev pub has_heard : ℕ → ℕ → QueueEnd → QueueEnd
-has_heard disc to e = queue_end e.queue (with_told e.pass (told_of (one_disc disc to)))
+has_heard disc to e = with_pass (with_told e.pass (told_of (one_disc disc to))) e
 
--- it is of the same queue, and was told the same
+-- so many turns, and so many of them found none, as long as 64 bits count the turns
+abbrev pub HasTurned : ℕ → ℕ → QueueEnd → QueueEnd → Type 0
+HasTurned turns misses v w = w.turns < 2 ^ 64 - 1 → (w.turns ≡ v.turns + turns) × (w.misses ≡ v.misses + misses)
+
+-- just one pop found none, as long as 64 bits count the turns
+abbrev pub HasMissed : QueueEnd → QueueEnd → Type 0
+HasMissed v w = w.turns < 2 ^ 64 - 1 → w.misses ≡ v.misses + 1
+
+-- it is of the same queue, and was told the same; turns may have been made
 pub record IsSameEnd (v w : QueueEnd) : Type 0 where
   pub queue : w.queue ≡ v.queue
   pub told : w.pass.told ≡ v.pass.told

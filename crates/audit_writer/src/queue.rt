@@ -3,7 +3,7 @@ ghost use Rattle.std.specs.Prelude.{◌≡◌, ℕ, List, [], true, MatchOption,
 ghost use Rattle.std.specs.Arc.{arc_value};
 ghost use Rattle.crossbeam_queue.specs.Passes.{view, IsPassOf};
 ghost use Rattle.audit_writer.specs.Handing.{disc_of, last_of};
-ghost use Rattle.audit_writer.specs.Parcels.{Follows, Has, IsAllPopped, MayFollow, all_discs, and_then, has_heard, holding, one_disc, popping, queue_end, reached, told_of, without_disc};
+ghost use Rattle.audit_writer.specs.Parcels.{Follows, Has, HasTurned, IsAllPopped, MayFollow, all_discs, and_then, has_heard, holding, one_disc, popping, queue_end, reached, told_of, without_disc};
 
 use crate::name::NodeRun;
 use crate::parcel::Parcel;
@@ -189,25 +189,28 @@ impl<J: NodeRun, const N: u8> Receipt<J, N> {
     }
 }
 
-/// The writer's end of the queue. Contracts see which queue it is, what was popped, and what it was told.
+/// The writer's end of the queue. Contracts see which queue it is, what was popped, what it was told, how often the writer has turned to it for a parcel,
+/// and how many pops found none.
 #[derive(Drop)]
 pub struct PopEnd<J: NodeRun, Q: QueueName, const N: u8> {
     queue: Arc<HandOff<J, N>, Global>,
     pass: HandOffPass<J, N>,
+    turns: u64,
+    misses: u64,
     of: PhantomData<Q>,
 }
 
 impl<J: NodeRun, Q: QueueName, const N: u8> Model for PopEnd<J, Q, N> {
-    ghost use Rattle.std.specs.Prelude.{◌≡◌, ℕ, List};
+    ghost use Rattle.std.specs.Prelude.{◌≡◌, ◌≤◌, ℕ, List};
     ghost use Rattle.std.specs.Arc.{arc_value};
     ghost use Rattle.crossbeam_queue.specs.Passes.{view as pass_view, IsPassOf};
-    ghost use Rattle.audit_writer.specs.Parcels.{QueueEnd, queue_end, popping};
+    ghost use Rattle.audit_writer.specs.Parcels.{QueueEnd, popping};
 
     ghost Value = { QueueEnd };
 
-    ghost view = { λ e. queue_end e.pass.table_id (pass_view e.pass) };
+    ghost view = { λ e. record { queue = e.pass.table_id; pass = pass_view e.pass; turns = e.turns; misses = e.misses } };
 
-    ghost invariant = { λ e. IsPassOf (arc_value e.queue) e.pass × (from : List (ℕ × ℕ)) × (pass_view e.pass ≡ popping from (pass_view e.pass).told) × (e.pass.table_id ≡ Q.queue) };
+    ghost invariant = { λ e. IsPassOf (arc_value e.queue) e.pass × (from : List (ℕ × ℕ)) × (pass_view e.pass ≡ popping from (pass_view e.pass).told) × (e.pass.table_id ≡ Q.queue) × (e.misses ≤ e.turns) };
 }
 
 impl<J: NodeRun, Q: QueueName, const N: u8> PopEnd<J, Q, N> {
@@ -220,11 +223,26 @@ impl<J: NodeRun, Q: QueueName, const N: u8> PopEnd<J, Q, N> {
 
     /// The oldest parcel. Where there is none, or another thread is just pushing it, `None`: it waits for nobody.
     pub fn pop(&mut self) -> Option<Parcel<J, N>>
-        ensures { MatchOption result (self.new ≡ self.old)
+        ensures queue { self.new.queue ≡ self.old.queue }
+        ensures popped { MatchOption result (self.new.pass ≡ self.old.pass)
             (λ p. (from : List (ℕ × ℕ)) × (self.old.pass ≡ popping from self.old.pass.told) × Follows (reached from (disc_of p.records)) p
-            × (self.new ≡ queue_end self.old.queue (popping (and_then p from) self.old.pass.told))) }
+            × (self.new.pass ≡ popping (and_then p from) self.old.pass.told)) }
+        ensures turned { MatchOption result (HasTurned 1 1 self.old self.new) (λ _. HasTurned 1 0 self.old self.new) }
     {
-        self.queue.try_pop_as::<Popped>(&mut self.pass)
+        let popped = self.queue.try_pop_as::<Popped>(&mut self.pass);
+        self.turns = self.turns.saturating_add(1);
+        if popped.is_none() {
+            self.misses = self.misses.saturating_add(1);
+        }
+        popped
+    }
+
+    /// Counts a turn of a writer that holds a parcel already, so that it pops none.
+    pub fn turn(&mut self)
+        ensures same { (self.new.queue ≡ self.old.queue) × (self.new.pass ≡ self.old.pass) }
+        ensures turned { HasTurned 1 0 self.old self.new }
+    {
+        self.turns = self.turns.saturating_add(1);
     }
 
     /// Whether the queue was seen empty. Then all was popped of which it was told that it was pushed.
@@ -409,6 +427,8 @@ impl<J: NodeRun, const N: u8> OpenQueue<J, N> {
         let end = PopEnd {
             queue: theirs,
             pass: pops,
+            turns: 0,
+            misses: 0,
             of: PhantomData,
         };
         (entrance, end, passes)

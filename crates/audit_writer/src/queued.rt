@@ -1,5 +1,5 @@
 //! A trail's writer at its end of the queue through which discs hand in.
-ghost use Rattle.std.specs.Prelude.{◌≡◌, ◌≢◌, ◌^◌, ◌-◌, ◌<◌, ◌≤◌, [], Some, length, min, true, IsOk, OnOk, OnErr, IfOk, IfErr, MatchResult};
+ghost use Rattle.std.specs.Prelude.{◌≡◌, ◌≢◌, ◌^◌, ◌-◌, ◌<◌, ◌≤◌, [], Some, length, min, true, IsOk, OnOk, OnErr, IfOk, IfErr, MatchBool, MatchResult};
 ghost use Rattle.disk_model.specs.Held.{HasCause};
 ghost use Rattle.chronicle.specs.Seats.{HasGrown, HasLearned, HasNewlySeen, Knows};
 ghost use Rattle.chronicle.specs.Histories.{events_of};
@@ -12,7 +12,7 @@ ghost use Rattle.node_machine.specs.Trail.{trail_of};
 ghost use Rattle.audit_writer.specs.Drains.{Drains, HasAllTold, at_queue};
 ghost use Rattle.audit_writer.specs.Handing.{MayHand, Takes, disc_of, last_of};
 ghost use Rattle.audit_writer.specs.Locked.{HasFailed, IsFlushStop};
-ghost use Rattle.audit_writer.specs.Parcels.{Has, IsReached, IsSameEnd, popping};
+ghost use Rattle.audit_writer.specs.Parcels.{Has, HasMissed, HasTurned, IsReached, IsSameEnd, popping};
 ghost use Rattle.audit_writer.specs.Purge.{HasPurged, HasPurgeStopped, HasRemoved};
 ghost use Rattle.audit_writer.specs.Writer.{IsWriter, with_bounds};
 ghost use Rattle.audit_writer.specs.Writes.{Writes, HasWritten, HasStopped, HasTold, HasUpTo, IsRaised};
@@ -95,8 +95,10 @@ impl<'a, D: Disk, J: DeviceRun<D>, Q: QueueName, const N: u8> QueuedWriter<'a, D
     fn pop(&mut self) -> bool
         ensures writer { self.new.writer ≡ self.old.writer }
         ensures end { IsSameEnd self.old.end self.new.end }
+        ensures turned { MatchBool result (HasTurned 1 0 self.old.end self.new.end) (HasTurned 1 1 self.old.end self.new.end) }
     {
         if self.held.is_some() {
+            self.end.turn();
             return true;
         }
         match self.end.pop() {
@@ -166,6 +168,7 @@ impl<'a, D: Disk, J: DeviceRun<D>, Q: QueueName, const N: u8> QueuedWriter<'a, D
     fn gather(&mut self, by: By) -> Result<bool, DiskFault>
         ensures kept { Drains D.Disk self.old.writer self.new.writer }
         ensures end { IsSameEnd self.old.end self.new.end }
+        ensures popped { OnOk result (HasMissed self.old.end self.new.end) }
         ensures told { IfOk result (λ empty. empty ≡ true → HasAllTold self.new) }
         ensures events { OnOk result (HasWritten self.old.writer self.new.writer) }
         ensures events_err { OnErr result (HasStopped by self.old.writer self.new.writer) }
@@ -184,6 +187,7 @@ impl<'a, D: Disk, J: DeviceRun<D>, Q: QueueName, const N: u8> QueuedWriter<'a, D
     fn drain(&mut self, by: By) -> Result<bool, DiskFault>
         ensures kept { Drains D.Disk self.old.writer self.new.writer }
         ensures end { IsSameEnd self.old.end self.new.end }
+        ensures popped { OnOk result (HasMissed self.old.end self.new.end) }
         ensures told { IfOk result (λ empty. empty ≡ true → HasAllTold self.new) }
         ensures all { OnOk result (self.new.writer.queue ≡ []) }
         ensures events { OnOk result (HasWritten self.old.writer self.new.writer) }
@@ -195,7 +199,7 @@ impl<'a, D: Disk, J: DeviceRun<D>, Q: QueueName, const N: u8> QueuedWriter<'a, D
         Ok(empty)
     }
 
-    /// Takes in what the queue has and lands all that waits. It says whether the queue was seen empty behind the last parcel; then it has
+    /// Takes in what the queue has, until a pop finds none, and lands all that waits. It says whether the queue was then seen empty; if so it has
     /// all of which it was told that it was pushed.
     pub fn flush_queue(
         &mut self,
@@ -203,6 +207,7 @@ impl<'a, D: Disk, J: DeviceRun<D>, Q: QueueName, const N: u8> QueuedWriter<'a, D
         by: By,
     ) -> Result<bool, DiskFault>
         ensures kept { Drains D.Disk self.old.writer self.new.writer × IsSameEnd self.old.end self.new.end }
+        ensures popped { OnOk result (HasMissed self.old.end self.new.end) }
         ensures told { IfOk result (λ empty. empty ≡ true → HasAllTold self.new) }
         ensures all { OnOk result (self.new.writer.queue ≡ []) }
         ensures events { MatchResult result (λ _. HasWritten self.old.writer self.new.writer) (λ _. HasStopped by self.old.writer self.new.writer) }
@@ -261,6 +266,7 @@ impl<'a, D: Disk, J: DeviceRun<D>, Q: QueueName, const N: u8> QueuedWriter<'a, D
         requires own { trail_of J.found.config disc ≡ N }
         requires small { disc ≤ 8 }
         ensures kept { Drains D.Disk self.old.writer self.new.writer × IsSameEnd self.old.end self.new.end }
+        ensures popped { OnOk result (HasMissed self.old.end self.new.end) }
         ensures all { OnOk result (self.new.writer.queue ≡ []) }
         ensures events { MatchResult result (λ _. HasWritten self.old.writer self.new.writer) (λ _. HasStopped by self.old.writer self.new.writer) }
         ensures durable { IfOk result (λ done. done ≡ true → Knows node J.opening caller.new (Durable disc position)) }
@@ -290,6 +296,7 @@ impl<'a, D: Disk, J: DeviceRun<D>, Q: QueueName, const N: u8> QueuedWriter<'a, D
     ) -> Result<bool, DiskFault>
         requires queue { receipt.old.queue ≡ Q.queue }
         ensures kept { Drains D.Disk self.old.writer self.new.writer }
+        ensures popped { OnOk result (HasMissed self.old.end self.new.end) }
         ensures all { OnOk result (self.new.writer.queue ≡ []) }
         ensures events { MatchResult result (λ _. HasWritten self.old.writer self.new.writer) (λ _. HasStopped by self.old.writer self.new.writer) }
         ensures durable { IfOk result (λ empty. empty ≡ true → IsReached (Knows node J.opening caller.new) receipt.old) }
@@ -317,7 +324,7 @@ impl<'a, D: Disk, J: DeviceRun<D>, Q: QueueName, const N: u8> QueuedWriter<'a, D
         requires queue { receipt.old.queue ≡ Q.queue }
         ensures writer { self.new.writer ≡ self.old.writer }
         ensures told { Has self.new.end.pass.told (receipt.old.disc, receipt.old.pushed) }
-        ensures same { receipt.new ≡ receipt.old }
+        ensures same { (receipt.new ≡ receipt.old) × (self.new.end.misses ≡ self.old.end.misses) }
     {
         self.end.lawful();
         self.end.hear(receipt);
@@ -333,6 +340,7 @@ impl<'a, D: Disk, J: DeviceRun<D>, Q: QueueName, const N: u8> QueuedWriter<'a, D
     ) -> Result<bool, FlushRefused>
         requires may { records.now ≢ [] → MayHand J.opening J.found (J.rules N) N disc.old (disc_of records.now) records.now }
         ensures kept { Drains D.Disk self.old.writer self.new.writer × IsSameEnd self.old.end self.new.end }
+        ensures popped { OnOk result (records.now ≢ [] → HasMissed self.old.end self.new.end) }
         ensures told { records.now ≢ [] → IfOk result (λ empty. empty ≡ true → HasAllTold self.new) }
         ensures all { OnOk result (records.now ≢ [] → self.new.writer.queue ≡ []) }
         ensures events { MatchResult result (λ _. HasWritten self.old.writer self.new.writer) (IsFlushStop by self.old.writer self.new.writer) }
@@ -362,6 +370,7 @@ impl<'a, D: Disk, J: DeviceRun<D>, Q: QueueName, const N: u8> QueuedWriter<'a, D
     ) -> Result<bool, FlushRefused>
         requires has { HasUpTo self.old.writer disc position }
         ensures kept { Drains D.Disk self.old.writer self.new.writer × IsSameEnd self.old.end self.new.end }
+        ensures popped { OnOk result (HasMissed self.old.end self.new.end) }
         ensures all { OnOk result (self.new.writer.queue ≡ []) }
         ensures events { MatchResult result (λ _. HasWritten self.old.writer self.new.writer) (λ e. (e ≡ FlushRefused.Failed N) × HasStopped by self.old.writer self.new.writer) }
         ensures told { IfOk result (λ empty. empty ≡ true → HasAllTold self.new) }

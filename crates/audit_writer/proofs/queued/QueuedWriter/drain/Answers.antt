@@ -1,5 +1,5 @@
 use Rattle.std.proofs.Common.{ap}
-use Rattle.audit_writer.proofs.Tying.{drains_then, told_drains}
+use Rattle.audit_writer.proofs.Tying.{drains_then, missed_same, told_drains}
 use Rattle.audit_writer.proofs.Written.{err_anyway, written_then, stopped_then}
 use Rattle.audit_writer.proofs.queued.QueuedWriter.drain.Goals as goal
 
@@ -17,3 +17,6 @@ returns-in_err-land-clause-events_err g c = err_anyway c.from_residual-in_err-la
 
 pub returns-clause-told : goal.returns-clause-told
 returns-clause-told g c = λ yes. told_drains g.D.Disk c.gather.new.self c.land.new.self c.land.ensures.kept (ap (λ e. e.pass.told) c.land.ensures.end) (c.in_ok-empty.ensures.told yes)
+
+pub returns-clause-popped : goal.returns-clause-popped
+returns-clause-popped g c = missed_same c.args.self.now.end c.gather.new.self.end c.land.new.self.end c.land.ensures.end c.in_ok-empty.ensures.popped

@@ -10,7 +10,7 @@ use Rattle.audit_writer.proofs.Hand.{from_right}
 use Rattle.audit_writer.proofs.Joining.{flushed_behind, refused_then}
 use Rattle.audit_writer.proofs.Locks.{last_behind, disc_behind}
 use Rattle.audit_writer.proofs.Queues.{still_some}
-use Rattle.audit_writer.proofs.Tying.{drains_none, drains_takes, drains_then, end_same, end_then, written_takes}
+use Rattle.audit_writer.proofs.Tying.{drains_none, drains_takes, drains_then, end_same, end_then, missed_from, written_takes}
 use Rattle.audit_writer.proofs.Written.{on_ok, written_none}
 use Rattle.audit_writer.proofs.queued.QueuedWriter.flush.Goals as goal
 
@@ -72,3 +72,7 @@ returns-in-Ok-clause-events g c =
     let v = c.args.self.now.writer in
     let w = c.hand.new.self.writer in
     flushed_behind g.row.N c.args.by v w c.land_up_to.new.self.writer c.land_up_to.result (written_takes v w c.in-Ok.ensures.takes) c.land_up_to.ensures.events
+
+pub returns-in-Ok-clause-popped : goal.returns-in-Ok-clause-popped
+returns-in-Ok-clause-popped g c =
+    on_ok c.land_up_to.result (λ h ne. missed_from c.args.self.now.end c.hand.new.self.end c.land_up_to.new.self.end (ap (λ e. e.misses) c.hand.ensures.end) h) c.land_up_to.ensures.popped

@@ -1,11 +1,11 @@
-use Rattle.std.proofs.Common.{◌∙◌, sym}
+use Rattle.std.proofs.Common.{◌∙◌, ap, sym}
 use Rattle.node_machine.specs.declared.event.Event.TheVariants.{OfTrail}
 use Rattle.node_machine.specs.declared.event.TrailEvent.TheVariants.{Failed}
 use Rattle.node_machine.specs.Opening.{trail_part}
 use Rattle.audit_writer.proofs.Joining.{grown_then}
 use Rattle.audit_writer.proofs.Locks.{learned_then}
 use Rattle.audit_writer.proofs.Seats.{newly_stopped}
-use Rattle.audit_writer.proofs.Tying.{drains_then, drains_told, end_same, end_then}
+use Rattle.audit_writer.proofs.Tying.{drains_then, drains_told, end_same, end_then, missed_from, missed_same}
 use Rattle.audit_writer.specs.Writes.{HasStopped, HasWritten}
 use Rattle.audit_writer.proofs.Written.{both_match, on_ok, on_err, stopped_then, stopped_told, written_then, written_told}
 use Rattle.audit_writer.proofs.queued.QueuedWriter.flush_queue.Goals as goal
@@ -53,3 +53,10 @@ returns-clause-events g c =
     both_match (HasWritten a e) (HasStopped c.args.by a e) r
     (on_ok r (λ h. written_then a b e first (written_then b d e h (written_told d e c.meet-2.ensures.told))) c.drain-drained.ensures.events)
     (on_err r (λ h. stopped_told c.args.by a d e (stopped_then c.args.by a b d first h) c.meet-2.ensures.told) c.drain-drained.ensures.events_err)
+
+pub returns-clause-popped : goal.returns-clause-popped
+returns-clause-popped g c =
+    let a = c.args.self.now.end in
+    let b = c.meet.new.self.end in
+    let d = c.drain-drained.new.self.end in
+    on_ok c.drain-drained.result (λ h. missed_same a d c.meet-2.new.self.end c.meet-2.ensures.end (missed_from a b d (ap (λ e. e.misses) c.meet.ensures.end) h)) c.drain-drained.ensures.popped

@@ -5,7 +5,7 @@ use Rattle.node_machine.specs.Opening.{trail_part}
 use Rattle.audit_writer.proofs.Locks.{learned_then, newly_then}
 use Rattle.audit_writer.specs.Drains.{Drains}
 use Rattle.audit_writer.specs.Writes.{HasStopped, HasWritten}
-use Rattle.audit_writer.proofs.Tying.{drains_then, drains_writes}
+use Rattle.audit_writer.proofs.Tying.{drains_then, drains_writes, missed_from, missed_same}
 use Rattle.audit_writer.proofs.Written.{err_anyway, err_says, stopped_then, written_then}
 use Rattle.audit_writer.proofs.queued.QueuedWriter.flush_receipt.Goals as goal
 
@@ -66,3 +66,15 @@ returns-then-position-eq0-clause-kept g c = subst (λ w. Drains g.D.Disk w c.flu
 
 pub returns-in_err-empty-clause-kept : goal.returns-in_err-empty-clause-kept
 returns-in_err-empty-clause-kept g c = subst (λ w. Drains g.D.Disk w c.flush_queue.new.self.writer) c.hear.ensures.writer c.flush_queue.ensures.kept.0
+
+pub returns-then-not-empty-clause-popped : goal.returns-then-not-empty-clause-popped
+returns-then-not-empty-clause-popped g c = missed_from c.args.self.now.end c.hear.new.self.end c.flush_queue.new.self.end c.hear.ensures.same.1 c.in_ok-empty.ensures.popped
+
+pub returns-then-position-eq0-clause-popped : goal.returns-then-position-eq0-clause-popped
+returns-then-position-eq0-clause-popped g c = missed_from c.args.self.now.end c.hear.new.self.end c.flush_queue.new.self.end c.hear.ensures.same.1 c.in_ok-empty.ensures.popped
+
+pub returns-clause-popped : goal.returns-clause-popped
+returns-clause-popped g c =
+    let a = c.args.self.now.end in
+    let d = c.flush_queue.new.self.end in
+    missed_same a d c.flush_to.new.self.end c.flush_to.ensures.end (missed_from a c.hear.new.self.end d c.hear.ensures.same.1 c.in_ok-empty.ensures.popped)

@@ -3,7 +3,7 @@ use Rattle.node_machine.specs.declared.event.TrailEvent.TheVariants.{Failed}
 use Rattle.node_machine.specs.Opening.{trail_part}
 use Rattle.audit_writer.proofs.Joining.{grown_then}
 use Rattle.audit_writer.proofs.Locks.{learned_then, newly_then}
-use Rattle.audit_writer.proofs.Tying.{drains_then, drains_writes, end_same, end_then}
+use Rattle.audit_writer.proofs.Tying.{drains_then, drains_writes, end_same, end_then, missed_same}
 use Rattle.audit_writer.proofs.Written.{err_anyway, err_says, stopped_then, written_then}
 use Rattle.audit_writer.proofs.queued.QueuedWriter.flush_up_to.Goals as goal
 
@@ -50,3 +50,6 @@ returns-clause-kept g c =
       drains_then kind (λ a. g.met.D.Disk.same_itself a) (λ a b d p q. g.met.D.Disk.same_on a b d p q) a.writer b.writer e.writer c.flush_queue.ensures.kept.0 (drains_writes b.writer e.writer kind c.flush_to.ensures.kept),
       end_then a.end b.end e.end c.flush_queue.ensures.kept.1 (end_same b.end e.end c.flush_to.ensures.end),
     )
+
+pub returns-clause-popped : goal.returns-clause-popped
+returns-clause-popped g c = missed_same c.args.self.now.end c.flush_queue.new.self.end c.flush_to.new.self.end c.flush_to.ensures.end c.in_ok-empty.ensures.popped

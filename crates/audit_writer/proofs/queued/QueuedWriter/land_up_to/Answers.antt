@@ -3,7 +3,7 @@ use Rattle.node_machine.specs.declared.event.Event.TheVariants.{OfTrail}
 use Rattle.node_machine.specs.declared.event.TrailEvent.TheVariants.{Failed}
 use Rattle.node_machine.specs.Opening.{trail_part}
 use Rattle.audit_writer.proofs.Locks.{newly_then}
-use Rattle.audit_writer.proofs.Tying.{drains_then, drains_writes, end_same, end_then, told_drains, up_drains}
+use Rattle.audit_writer.proofs.Tying.{drains_then, drains_writes, end_same, end_then, missed_same, told_drains, up_drains}
 use Rattle.audit_writer.proofs.Written.{stopped_then, written_then}
 use Rattle.audit_writer.proofs.queued.QueuedWriter.land_up_to.Goals as goal
 
@@ -38,3 +38,6 @@ returns-in-Ok-flush_to-clause-told g c = λ yes.
     let b = c.flush_queue.new.self in
     let e = c.flush_to.new.self in
     told_drains g.D.Disk b e (drains_writes b.writer e.writer g.D.Disk c.flush_to.ensures.kept) (ap (λ x. x.pass.told) c.flush_to.ensures.end) (c.in-Ok.ensures.told yes)
+
+pub returns-in-Ok-flush_to-clause-popped : goal.returns-in-Ok-flush_to-clause-popped
+returns-in-Ok-flush_to-clause-popped g c = missed_same c.args.self.now.end c.flush_queue.new.self.end c.flush_to.new.self.end c.flush_to.ensures.end c.in-Ok.ensures.popped
