@@ -202,8 +202,8 @@ of_refusal faults by old new (stopped.Failed device) (inr h) = plain_behind old.
 of_refusal faults by old new stopped.NoMemory h = of_draws old.seat new.seat h
 
 of_unread : {D : Type 0} (kind : disk.Ghosts D) (t : Transid) (f n : ℕ) (old new : DiscView D) (e : WriteRefused) → IsUnread kind t f n old new e → HasPlain old.seat new.seat
-of_unread kind t f n old new refused.NoMemory h = of_draws old.seat new.seat h
-of_unread kind t f n old new (refused.Failed device) h = of_refusal kind.faults (Attempt t) old new (stopped.Failed device) h
+of_unread kind t f n old new refused.NoMemory h = of_draws old.seat new.seat h.0
+of_unread kind t f n old new (refused.Failed device) h = of_refusal kind.faults (Attempt t) old new (stopped.Failed device) h.0
 of_unread kind t f n old new (refused.Damaged device damage) h = of_draws old.seat new.seat h.1
 of_unread kind t f n old new (refused.Spent part) h = absurd h
 of_unread kind t f n old new (refused.Busy holder) h = absurd h

@@ -26,12 +26,12 @@ use Rattle.block_cache.specs.Blocks.{InCache, View, home_of}
 use Rattle.disc_process.specs.Blocks.{BringsIn, IsHome, cached, with_change}
 use Rattle.disc_process.specs.Damage.{WasRight}
 use Rattle.disc_process.specs.Disc.{AreKept, DiscView, FindsIn, event_of}
-use Rattle.disc_process.specs.Draw.{AreDraws, HasMadeRoom, IsDrawRefusal, SameWork}
+use Rattle.disc_process.specs.Draw.{AreDraws, HasMadeRoom, HasSoughtRoom, IsDrawRefusal, SameWork}
 use Rattle.disk_model.specs.declared.disk.Disk as disk
-use Rattle.disc_process.specs.Write.{HasBadBlock, HasCarriedOut, HasDone, IsAnswered, HasBlockAfter, IsCrowded, IsDone, IsEnlisted, IsIdle, IsKeyAnswered, IsLockAnswered, IsRefused, IsUnread, MayBegin, block_after}
+use Rattle.disc_process.specs.Write.{HasBadBlock, HasCarriedOut, HasDone, IsAnswered, HasBlockAfter, IsCrowded, IsDone, IsEnlisted, IsIdle, IsKeyAnswered, IsLockAnswered, IsRefused, IsUnread, MayBegin, SeeksHome, block_after}
 use Rattle.disc_process.proofs.Bringing.{others_brought, was_brought}
 use Rattle.disc_process.proofs.Drawn.{draws_then, refusal_more}
-use Rattle.disc_process.proofs.Rooms.{room_draws}
+use Rattle.disc_process.proofs.Rooms.{room_draws, sought_before, sought_made}
 
 pub event_same : (s t : DiscPart) (x : Transid) (step : Step) (what : Found) → SameWork s t → event_of t x step what ≡ event_of s x step what
 event_same s t x step (found.Change before after) w =
@@ -129,17 +129,21 @@ module _ {D : Type 0} (kind : disk.Ghosts D) (old mid new : DiscView D) (t_old t
     still_brings : new.blocks ≡ mid.blocks → BringsIn old.blocks new.blocks step.file (home_block old.part.config step.file step.key)
     still_brings same = subst (λ (v : View D). BringsIn old.blocks v step.file (home_block old.part.config step.file step.key)) (sym same) brings
 
+    still_sought : own_events new.seat ≡ own_events mid.seat → SeeksHome old new t_old step
+    still_sought same = sought_made (Attempt t_old.tx) old.blocks step.file (home_block old.part.config step.file step.key) old.seat mid.seat new.seat drawn same
+
     -- a step that was carried out behind the draws that made room
     pub done_answered : (r : Result (Option (List ℕ)) WriteRefused) → IsDone kind mid new t_mid t_new step r → IsKeyAnswered kind old new t_old t_new step r
     done_answered (Ok value) (what, done, gives) = (what, carried what done, gives)
     done_answered (Err refused.NoMemory) h =
-        (begun, record { drawn = drawn.drawn; are = are_draws; events = h.disc_events ∙ drawn.events }, idle_then t_old t_mid t_new idle h.worker, still_brings h.blocks)
+        (begun, record { drawn = drawn.drawn; are = are_draws; events = h.disc_events ∙ drawn.events }, idle_then t_old t_mid t_new idle h.worker, still_brings h.blocks, still_sought h.disc_events)
     done_answered (Err (refused.Damaged device damage)) h = (
       begun,
       h.0 ∙ ap (λ n. 4 + n) work.number,
       (record { drawn = drawn.drawn; are = are_draws; events = h.1.disc_events ∙ drawn.events }, idle_then t_old t_mid t_new idle h.1.worker),
       inr (crowded_before damage h.2),
       still_brings h.1.blocks,
+      still_sought h.1.disc_events,
     )
     done_answered (Err refused.Full) h = carried found.Full h
     done_answered (Err (refused.Refused reason)) h = carried (found.Refused reason) h
@@ -153,23 +157,36 @@ module _ {D : Type 0} (kind : disk.Ghosts D) (old mid new : DiscView D) (t_old t
         → BringsIn old.blocks new.blocks step.file (home_block old.part.config step.file step.key)
     brings_met f n file number h = subst (λ (x : View D × (ℕ × ℕ)). BringsIn x.0 new.blocks x.1.0 x.1.1) (λ j. (blocks j, (file j, number j))) h
 
+    sought_met : (t : Transid) (f n : ℕ) → t ≡ t_old.tx → f ≡ step.file → n ≡ home_block old.part.config step.file step.key → HasSoughtRoom (Attempt t) mid.blocks f n mid.seat new.seat → SeeksHome old new t_old step
+    sought_met t f n is file number h =
+        sought_before (Attempt t_old.tx) old.blocks mid.blocks step.file (home_block old.part.config step.file step.key) old.seat mid.seat new.seat blocks grown.mine
+        (subst (λ (x : Transid × (ℕ × ℕ)). HasSoughtRoom (Attempt x.0) mid.blocks x.1.0 x.1.1 mid.seat new.seat) (λ j. (is j, (file j, number j))) h)
+
     pub unread_refused : (t : Transid) (f n : ℕ) → t ≡ t_old.tx → f ≡ step.file → n ≡ home_block old.part.config step.file step.key → IsIdle t_mid t_new → BringsIn mid.blocks new.blocks f n
         → (e : WriteRefused) → IsUnread kind t f n mid new e → IsRefused kind old new t_old t_new step e
-    unread_refused t f n is file number still brings refused.NoMemory h = (begun, draws_then old.seat mid.seat new.seat [] refl (grown.mine ∙ sym (append-nil (own_events old.seat))) h, idle_then t_old t_mid t_new idle still, brings_met f n file number brings)
+    unread_refused t f n is file number still brings refused.NoMemory h = (
+      begun,
+      draws_then old.seat mid.seat new.seat [] refl (grown.mine ∙ sym (append-nil (own_events old.seat))) h.0,
+      idle_then t_old t_mid t_new idle still,
+      brings_met f n file number brings,
+      sought_met t f n is file number h.1,
+    )
     unread_refused t f n is file number still brings (refused.Damaged device damage) h = (
       begun,
       h.0 ∙ ap (λ (s : DiscPart). 4 + s.number) part,
       (draws_then old.seat mid.seat new.seat [] refl (grown.mine ∙ sym (append-nil (own_events old.seat))) h.1, idle_then t_old t_mid t_new idle still),
       inl (subst (λ (x : ℕ × ℕ). HasBadBlock kind new x.0 x.1 damage) (λ j. (file j, number j)) h.2),
       brings_met f n file number brings,
+      sought_met t f n is file number h.3,
     )
     unread_refused t f n is file number still brings (refused.Failed device) h = (
       begun,
       refusal_more kind.faults (Attempt t_old.tx) old mid new (stopped.Failed device) [] (ap (λ (s : DiscPart). s.config) part) (ap (λ (s : DiscPart). s.number) part) grown.begins
           (grown.mine ∙ sym (append-nil (own_events old.seat))) refl (eq_le (sym (ap (λ (v : View D). kind.faults v.device) blocks))) later
-          (subst (λ (x : Transid). IsDrawRefusal kind.faults (Attempt x) mid new (stopped.Failed device)) is h),
+          (subst (λ (x : Transid). IsDrawRefusal kind.faults (Attempt x) mid new (stopped.Failed device)) is h.0),
       idle_then t_old t_mid t_new idle still,
       brings_met f n file number brings,
+      sought_met t f n is file number h.1,
     )
     unread_refused t f n is file number still brings (refused.Spent part_) h = absurd h
     unread_refused t f n is file number still brings (refused.Busy holder_) h = absurd h
@@ -222,9 +239,9 @@ module _ {D : Type 0} (kind : disk.Ghosts D) (old new : DiscView D) (t_old t_mid
   key_met (Ok value) (what, h, gives) = (what, carried_met what h, gives)
   key_met (Err (refused.Spent part)) h = (record { disc_events = h.0.disc_events; blocks = h.0.blocks; worker = idle_then t_old t_mid t_new h.0.worker idle }, h.1)
   key_met (Err (refused.Busy other)) h = (h.0, h.1, record { disc_events = h.2.disc_events; blocks = h.2.blocks; worker = idle_then t_old t_mid t_new h.2.worker idle })
-  key_met (Err refused.NoMemory) h = (h.0, h.1, idle_then t_old t_mid t_new h.2 idle, h.3)
-  key_met (Err (refused.Failed device)) h = (h.0, h.1, idle_then t_old t_mid t_new h.2 idle, h.3)
-  key_met (Err (refused.Damaged device damage)) h = (h.0, h.1, (h.2.0, idle_then t_old t_mid t_new h.2.1 idle), h.3, h.4)
+  key_met (Err refused.NoMemory) h = (h.0, h.1, idle_then t_old t_mid t_new h.2 idle, h.3, h.4)
+  key_met (Err (refused.Failed device)) h = (h.0, h.1, idle_then t_old t_mid t_new h.2 idle, h.3, h.4)
+  key_met (Err (refused.Damaged device damage)) h = (h.0, h.1, (h.2.0, idle_then t_old t_mid t_new h.2.1 idle), h.3, h.4, h.5)
   key_met (Err refused.Full) h = carried_met found.Full h
   key_met (Err (refused.Refused reason)) h = carried_met (found.Refused reason) h
 

@@ -37,6 +37,7 @@ pub mod Seats
 mod LastWrite
 pub mod Undoing
 pub mod Undone
+pub mod Unread
 pub mod Newest
 pub mod Backed
 pub mod Released

@@ -25,14 +25,14 @@ use Rattle.disc_process.specs.declared.undo_refused.UndoRefused.TheVariants as s
 use Rattle.disc_process.specs.Blocks.{BringsIn, IsKeptOrGone, cached, with_change}
 use Rattle.disc_process.specs.Damage.{WasRight}
 use Rattle.disc_process.specs.Disc.{DiscView}
-use Rattle.disc_process.specs.Draw.{AreDraws, AreForRoom, HasDrawn, HasMadeRoom, SameWork}
+use Rattle.disc_process.specs.Draw.{AreDraws, AreForRoom, HasDrawn, HasMadeRoom, HasSoughtRoom, SameWork}
 use Rattle.disc_process.specs.Release.{with_event}
 use Rattle.disc_process.specs.Undo.{CannotTakeBack, HasPutBack, HasTakenBack, IsNewest, IsNotUndone, IsUndoAnswer, IsUndoRefusal, home_of_change, takes_back, undo_of, undo_refusal, undone_block}
 use Rattle.disc_process.specs.Write.{HasBadBlock, IsUnread}
 use Rattle.disc_process.proofs.Answered.{eq_le}
 use Rattle.disc_process.proofs.Bringing.{others_brought, was_brought}
 use Rattle.disc_process.proofs.Drawn.{draws_then, refusal_more}
-use Rattle.disc_process.proofs.Rooms.{room_draws}
+use Rattle.disc_process.proofs.Rooms.{room_draws, sought_before, sought_made}
 
 pub newest_later : (s m : DiscPart) (t : Transid) (change : Change) → SameWork s m → IsNewest s t change → IsNewest m t change
 newest_later s m t change work was = record {
@@ -112,19 +112,29 @@ module _ {D : Type 0} (kind : disk.Ghosts D) (old mid new : DiscView D) (t : Tra
     newest = newest;
     why = why_stuck e h;
     brings = subst (λ (v : DiscView D). BringsIn old.blocks v.blocks change.file (home_of_change old.part change)) (sym (stuck_same e h)) brings;
+    room = sought_made (Attempt t) old.blocks change.file (home_of_change old.part change) old.seat mid.seat new.seat drawn (ap (λ (v : DiscView D). own_events v.seat) (stuck_same e h));
   }
 
 -- a block that was not read
 why_unread : {D : Type 0} (kind : disk.Ghosts D) (old new : DiscView D) (t : Transid) (change : Change) (f n : ℕ) → f ≡ change.file → n ≡ home_of_change old.part change
     → (e : WriteRefused) → IsUnread kind t f n old new e → IsUndoRefusal kind old new t change (undo_refusal e)
-why_unread kind old new t change f n file number refused.NoMemory h = h
-why_unread kind old new t change f n file number (refused.Failed device) h = h
+why_unread kind old new t change f n file number refused.NoMemory h = h.0
+why_unread kind old new t change f n file number (refused.Failed device) h = h.0
 why_unread kind old new t change f n file number (refused.Damaged device damage) h =
     (h.0, h.1, inl (subst (λ (x : ℕ × ℕ). HasBadBlock kind new x.0 x.1 damage) (λ j. (file j, number j)) h.2))
 why_unread kind old new t change f n file number (refused.Spent part) h = absurd h
 why_unread kind old new t change f n file number (refused.Busy holder) h = absurd h
 why_unread kind old new t change f n file number refused.Full h = absurd h
 why_unread kind old new t change f n file number (refused.Refused reason) h = absurd h
+
+why_sought : {D : Type 0} (kind : disk.Ghosts D) (old new : DiscView D) (t : Transid) (f n : ℕ) (e : WriteRefused) → IsUnread kind t f n old new e → HasSoughtRoom (Attempt t) old.blocks f n old.seat new.seat
+why_sought kind old new t f n refused.NoMemory h = h.1
+why_sought kind old new t f n (refused.Failed device) h = h.1
+why_sought kind old new t f n (refused.Damaged device damage) h = h.3
+why_sought kind old new t f n (refused.Spent part) h = absurd h
+why_sought kind old new t f n (refused.Busy holder) h = absurd h
+why_sought kind old new t f n refused.Full h = absurd h
+why_sought kind old new t f n (refused.Refused reason) h = absurd h
 
 pub unread_stuck : {D : Type 0} (kind : disk.Ghosts D) (old new : DiscView D) (t : Transid) (change : Change) (f n : ℕ) → IsNewest old.part t change → f ≡ change.file → n ≡ home_of_change old.part change
     → BringsIn old.blocks new.blocks f n → (e : WriteRefused) → IsUnread kind t f n old new e → IsNotUndone kind old new t (undo_refusal e)
@@ -133,6 +143,7 @@ unread_stuck kind old new t change f n newest file number brings e h = record {
   newest = newest;
   why = why_unread kind old new t change f n file number e h;
   brings = subst (λ (x : ℕ × ℕ). BringsIn old.blocks new.blocks x.0 x.1) (λ j. (file j, number j)) brings;
+  room = subst (λ (x : ℕ × ℕ). HasSoughtRoom (Attempt t) old.blocks x.0 x.1 old.seat new.seat) (λ j. (file j, number j)) (why_sought kind old new t f n e h);
 }
 
 -- behind a meeting
@@ -161,6 +172,8 @@ module _ {D : Type 0} (kind : disk.Ghosts D) (old mid new : DiscView D) (t : Tra
     newest = newest_met h.change h.newest;
     why = why_met h.change e h.why;
     brings = subst (λ (x : View D × DiscPart). BringsIn x.0 new.blocks h.change.file (home_of_change x.1 h.change)) (λ j. (blocks j, part j)) h.brings;
+    room = sought_before (Attempt t) old.blocks mid.blocks h.change.file (home_of_change old.part h.change) old.seat mid.seat new.seat blocks grown.mine
+        (subst (λ (s : DiscPart). HasSoughtRoom (Attempt t) mid.blocks h.change.file (home_of_change s h.change) mid.seat new.seat) part h.room);
   }
 
   pub answer_met : (r : Result Bool UndoRefused) → IsUndoAnswer kind mid new t r → IsUndoAnswer kind old new t r

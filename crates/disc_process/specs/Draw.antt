@@ -1,7 +1,8 @@
 -- What a draw says.
-use Rattle.std.specs.Prelude.{◌≡◌, ◌⊎◌, ◌∷◌, ◌++◌, ◌+◌, ◌<◌, ◌≤◌, ℕ, Bool, true, false, List, [], Option, None, if◌then◌else◌}
+use Rattle.std.specs.Prelude.{◌≡◌, ◌⊎◌, ◌∷◌, ◌++◌, ◌+◌, ◌<◌, ◌≤◌, ℕ, Bool, true, false, List, [], Option, None, if◌then◌else◌, slice_get}
 use Rattle.std.specs.List.{list_all}
 use Rattle.std.specs.Option.{option_map}
+use mathlib.Core.List.{IsPrefix}
 use Rattle.chronicle.specs.Seats.{Sight, HasGrown, own_events}
 use Rattle.disk_model.specs.Held.{Rose}
 use Rattle.node_machine.specs.declared.event.By.{By}
@@ -16,7 +17,7 @@ use Rattle.audit_writer.specs.declared.lock.FlushRefused.{FlushRefused}
 use Rattle.audit_writer.specs.declared.lock.FlushRefused.TheVariants as refused
 use Rattle.block_cache.specs.declared.frame.Frame.{Frame}
 use Rattle.block_cache.specs.Blocks.{InCache, View}
-use Rattle.block_cache.specs.Cache.{entry_at, is_dirty, victim_of}
+use Rattle.block_cache.specs.Cache.{entry_at, frame_at, is_dirty, place_of, victim_of}
 use Rattle.disc_process.specs.Blocks.{IsHeldUp, KeepsContents, dirty_in, ended_in, half_in, position_in}
 use Rattle.audit_writer.specs.Locked.{HasFailed as HasTrailFailed}
 use Rattle.disc_process.specs.Disc.{DiscView}
@@ -67,12 +68,15 @@ pub record HasDrawn (v w : Sight Event) : Type 0 where
   pub are : AreDraws drawn
   pub events : own_events w ≡ own_events v ++ drawn
 
--- Draws that make room for a block: this one is not in the cache, where no frame gives way, and they are of one block.
+-- Draws that make room for a block: this one is not in the cache, where no frame gives way. They are of one block, the least recently used one, which is to be
+-- drawn, or whose draw is to be ended.
 pub record MakeRoom {D : Type 0} (blocks : View D) (f n : ℕ) (events : List Event) : Type 0 where
   pub other_file : ℕ
   pub other_number : ℕ
   pub missing : entry_at blocks.cache f n ≡ None
   pub full : victim_of blocks.cache ≡ None
+  pub oldest : frame_at blocks.cache (place_of other_file other_number) ≡ slice_get blocks.cache.order 0
+  pub dirty : InCache blocks.cache other_file other_number (λ x. is_dirty x ≡ true)
   pub of_one : events ≡ endings other_file other_number (entry_at blocks.cache other_file other_number) ++ drawings other_file other_number (entry_at blocks.cache other_file other_number)
 
 -- no draws, or such
@@ -84,6 +88,18 @@ pub record HasMadeRoom {D : Type 0} (blocks : View D) (f n : ℕ) (v w : Sight E
   pub drawn : List Event
   pub room : AreForRoom blocks f n drawn
   pub events : own_events w ≡ own_events v ++ drawn
+
+-- the disc has had a front of these events, and may have told a failure behind them
+pub record HasBegun (by : By) (whole : List Event) (v w : Sight Event) : Type 0 where
+  pub had : List Event
+  pub front : IsPrefix had whole
+  pub events : (own_events w ≡ own_events v ++ had) ⊎ (own_events w ≡ (own_events v ++ had) ++ OfDisc (did.Failed by) ∷ [])
+
+-- the same of draws that make room for a block: so of one block's draw at most
+pub record HasSoughtRoom {D : Type 0} (by : By) (blocks : View D) (f n : ℕ) (v w : Sight Event) : Type 0 where
+  pub whole : List Event
+  pub room : AreForRoom blocks f n whole
+  pub begun : HasBegun by whole v w
 
 -- the volume has failed in the last call, behind draws
 pub record HasFailed {D : Type 0} (faults : D → ℕ) (by : By) (old new : DiscView D) (device : ℕ) : Type 0 where

@@ -28,7 +28,7 @@ ghost use Rattle.node_machine.specs.Node.{node};
 ghost use Rattle.node_machine.specs.Parts.{Fact as TheFact};
 ghost use Rattle.node_machine.specs.Parts.Fact.{Closed, Durable};
 ghost use Rattle.disc_process.specs.Blocks.{BringsIn, SameCached};
-ghost use Rattle.disc_process.specs.Draw.{HasDrawn, HasMadeRoom, HasOnlySeen, IsDrawRefusal, SameWork};
+ghost use Rattle.disc_process.specs.Draw.{HasDrawn, HasMadeRoom, HasOnlySeen, HasSoughtRoom, IsDrawRefusal, SameWork};
 ghost use Rattle.disc_process.specs.Write.{HasBadBlock, HasDone, IsAnswered, IsDone, IsIdle, IsKeyAnswered, IsUnread};
 ghost use Rattle.disc_process.specs.Damage.{HoldsBlocks, WasRight};
 ghost use Rattle.disc_process.specs.Device.{HoldsDevice, IsUntold, device_of};
@@ -343,6 +343,7 @@ impl<'a, D: Disk, J: DeviceRun<D>> DiscState<'a, D, J> {
         ensures later_seat { IsLaterSeat self.old.seat self.new.seat }
         ensures drawn { OnOk result (HasDrawn self.old.seat self.new.seat × SameWork self.old.part self.new.part) }
         ensures made { OnOk result (HasMadeRoom self.old.blocks n.file n.number self.old.seat self.new.seat) }
+        ensures sought { OnErr result (HasSoughtRoom by self.old.blocks n.file n.number self.old.seat self.new.seat) }
         ensures same { SameCached self.old.blocks self.new.blocks }
         ensures refused { IfErr result (IsDrawRefusal D.faults by self.old self.new) }
         ensures later { D.faults self.old.blocks.device ≤ D.faults self.new.blocks.device }

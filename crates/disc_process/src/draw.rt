@@ -16,7 +16,7 @@ ghost use Rattle.block_cache.specs.declared.pair.PairPhase.{PairPhase};
 ghost use Rattle.keyed_file.specs.Volume.{blocks_of as label_blocks};
 ghost use Rattle.node_machine.specs.Node.{node};
 ghost use Rattle.node_machine.specs.Parts.Fact.{Durable};
-ghost use Rattle.disc_process.specs.Draw.{HasDrawnBlock, HasOnlySeen, IsClean, IsDrawRefusal, IsFirstDirty, IsStopped, KeepsDraw, SameWork, drawings, endings};
+ghost use Rattle.disc_process.specs.Draw.{HasBegun, HasDrawnBlock, HasOnlySeen, IsClean, IsDrawRefusal, IsFirstDirty, IsStopped, KeepsDraw, SameWork, drawings, endings};
 ghost use Rattle.disc_process.specs.Device.{IsUntold, device_of};
 ghost use Rattle.disc_process.specs.Disc.{AreTrails};
 ghost use Rattle.disc_process.specs.Later.{IsLaterDisc};
@@ -121,6 +121,7 @@ impl<'a, D: Disk, J: DeviceRun<D>> DiscState<'a, D, J> {
         ensures clean { OnOk result (IsClean self.new.blocks n.file n.number) }
         ensures events { OnOk result (own_events self.new.seat ≡ own_events self.old.seat
             ++ drawings n.file n.number (entry_at self.old.blocks.cache n.file n.number)) }
+        ensures begun { OnErr result (HasBegun by (drawings n.file n.number (entry_at self.old.blocks.cache n.file n.number)) self.old.seat self.new.seat) }
         ensures held_up { OnErr result (IsHeldUp (entry_at self.old.blocks.cache n.file n.number) (entry_at self.new.blocks.cache n.file n.number)) }
         ensures frame { KeepsDraw self.old self.new n.file n.number }
         ensures refused { IfErr result (IsDrawRefusal D.faults by self.old self.new) }
@@ -151,6 +152,8 @@ impl<'a, D: Disk, J: DeviceRun<D>> DiscState<'a, D, J> {
         requires here { volume_of self.old.part.config n.file ≡ self.old.part.number }
         requires within { n.number < blocks_of self.old.part.config n.file }
         ensures drawn { OnOk result (HasDrawnBlock self.old self.new n.file n.number) }
+        ensures begun { OnErr result (HasBegun by (endings n.file n.number (entry_at self.old.blocks.cache n.file n.number)
+            ++ drawings n.file n.number (entry_at self.old.blocks.cache n.file n.number)) self.old.seat self.new.seat) }
         ensures stopped { OnErr result (IsStopped (entry_at self.old.blocks.cache n.file n.number) (entry_at self.new.blocks.cache n.file n.number)) }
         ensures refused { IfErr result (IsDrawRefusal D.faults by self.old self.new) }
         ensures work { SameWork self.old.part self.new.part }
@@ -179,6 +182,8 @@ impl<'a, D: Disk, J: DeviceRun<D>> DiscState<'a, D, J> {
         ensures events { OnOk result (own_events self.new.seat ≡ own_events self.old.seat
             ++ (endings n.file n.number (entry_at self.old.blocks.cache n.file n.number)
             ++ drawings n.file n.number (entry_at self.old.blocks.cache n.file n.number))) }
+        ensures begun { OnErr result (HasBegun by (endings n.file n.number (entry_at self.old.blocks.cache n.file n.number)
+            ++ drawings n.file n.number (entry_at self.old.blocks.cache n.file n.number)) self.old.seat self.new.seat) }
         ensures stopped { OnErr result (IsStopped (entry_at self.old.blocks.cache n.file n.number) (entry_at self.new.blocks.cache n.file n.number)) }
         ensures refused { IfErr result (IsDrawRefusal D.faults by self.old self.new) }
         ensures frame { KeepsDraw self.old self.new n.file n.number }

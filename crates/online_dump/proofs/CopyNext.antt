@@ -28,12 +28,13 @@ use Rattle.disc_process.specs.declared.refused.WriteRefused.{WriteRefused}
 use Rattle.disc_process.specs.declared.refused.WriteRefused.TheVariants as refused
 use Rattle.disc_process.specs.Copied.{HasCopied}
 use Rattle.disc_process.specs.Disc.{DiscView, ToldBy as DiscToldBy}
-use Rattle.disc_process.specs.Draw.{HasDrawn, SameWork}
+use Rattle.disc_process.specs.Draw.{HasDrawn, HasSoughtRoom, SameWork}
 use Rattle.disc_process.specs.Later.{IsLawful}
 use Rattle.disc_process.specs.Write.{IsUnread}
 use Rattle.disc_process.proofs.Drawing.{values_at_end}
 use Rattle.disc_process.proofs.Drawn.{draws_then, refusal_more}
 use Rattle.disc_process.proofs.Handing.{all_up_to}
+use Rattle.disc_process.proofs.Rooms.{sought_before}
 use Rattle.online_dump.specs.AtDisc.{HasOnlySeen}
 use Rattle.online_dump.specs.Copies.{IsContentBehind, ToldBy, files_of}
 use Rattle.online_dump.specs.Dumper.{AreCopied, Dumper, IsCopying, base_found, base_in, open_dump, open_in}
@@ -89,11 +90,16 @@ unread_met {D} kind t f n old mid new part blocks begins mine later e h = of e h
   less : kind.faults old.blocks.device ≤ kind.faults mid.blocks.device
   less = (let same = ap (λ (v : View D). kind.faults v.device) blocks in omega (arith, same))
 
+  sought : HasSoughtRoom (Attempt t) mid.blocks f n mid.seat new.seat → HasSoughtRoom (Attempt t) old.blocks f n old.seat new.seat
+  sought h = sought_before (Attempt t) old.blocks mid.blocks f n old.seat mid.seat new.seat blocks mine h
+
   of : (e : WriteRefused) → IsUnread kind t f n mid new e → IsUnread kind t f n old new e
-  of refused.NoMemory h = draws_then old.seat mid.seat new.seat [] refl own h
-  of (refused.Failed device) h =
-      refusal_more kind.faults (Attempt t) old mid new (stopped.Failed device) [] (ap (λ (s : DiscPart). s.config) part) (ap (λ (s : DiscPart). s.number) part) begins own refl less later h
-  of (refused.Damaged device damage) h = (h.0 ∙ ap (λ (s : DiscPart). 4 + s.number) part, draws_then old.seat mid.seat new.seat [] refl own h.1, h.2)
+  of refused.NoMemory h = (draws_then old.seat mid.seat new.seat [] refl own h.0, sought h.1)
+  of (refused.Failed device) h = (
+    refusal_more kind.faults (Attempt t) old mid new (stopped.Failed device) [] (ap (λ (s : DiscPart). s.config) part) (ap (λ (s : DiscPart). s.number) part) begins own refl less later h.0,
+    sought h.1,
+  )
+  of (refused.Damaged device damage) h = (h.0 ∙ ap (λ (s : DiscPart). 4 + s.number) part, draws_then old.seat mid.seat new.seat [] refl own h.1, h.2, sought h.3)
   of (refused.Spent part_) h = absurd h
   of (refused.Busy holder_) h = absurd h
   of refused.Full h = absurd h

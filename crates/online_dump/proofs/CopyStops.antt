@@ -93,7 +93,7 @@ module _ {D : Type 0} (opening : List PartState) (found : Found) (volume : ℕ) 
 
     of : (e : WriteRefused) → IsUnread kind item file block first last e → IsStop e × IsStopFor kind devices found volume item a d (refusal_of e)
     of refused.NoMemory h = (tt, tt)
-    of (refused.Failed device) h = (tt, draw_stop kind.faults device h)
+    of (refused.Failed device) h = (tt, draw_stop kind.faults device h.0)
     of (refused.Damaged device damage) h = (
       tt,
       record {

@@ -1,8 +1,9 @@
-use Rattle.std.proofs.Common.{inr, [], refl, subst}
-use Rattle.chronicle.specs.Seats.{HasNewlySeen, Knows}
+use Rattle.std.proofs.Common.{inl, inr, [], refl, sym, subst}
+use Rattle.chronicle.specs.Seats.{HasNewlySeen, Knows, Sight}
 use Rattle.tmf_model.specs.declared.transid.Transid.{Transid}
 use Rattle.trail_files.specs.declared.monitor_record.MonitorRecord.TheVariants.{Abort}
 use Rattle.node_machine.specs.declared.event.By.TheVariants.{Attempt}
+use Rattle.node_machine.specs.declared.event.Event.{Event}
 use Rattle.node_machine.specs.declared.event.Event.TheVariants.{OfMonitor}
 use Rattle.node_machine.specs.declared.event.MonitorEvent.TheVariants.{Failed}
 use Rattle.node_machine.specs.Node.{node}
@@ -10,6 +11,7 @@ use Rattle.node_machine.specs.Opening.{monitor_part}
 use Rattle.node_machine.specs.Parts.Fact.{Recorded}
 use Rattle.txn_states.specs.Txn.{Txn}
 use Rattle.commit_boxcar.specs.Settled.{HasAborted, IsInDoubt}
+use Rattle.backout.specs.Backed.{IsHanging}
 use Rattle.backout.proofs.Steps.{advanced_then, stepped_then}
 use Rattle.backout.proofs.Undos.{newly_seen, undone_later, undone_on}
 use Rattle.backout.proofs.backing.undo_and_record.Goals as goal
@@ -28,6 +30,12 @@ returns-in-Ok-clause-recorded g c =
       undone = undone_later o old mid e.txn aborted.stepped c.in_default.ensures.undone;
       recorded = (aborted.place, subst (λ (t : Transid). Knows node o e.txn.seat (Recorded (Abort t) aborted.place)) step.tx aborted.recorded);
     }
+
+pub returns-in-Err-clause-hanging : goal.returns-in-Err-clause-hanging
+returns-in-Err-clause-hanging g c =
+    let o = g.J.Run.opening in
+    subst (λ (v : Sight Event). IsHanging g.D.Disk o g.J.NodeRun.found.config g.J.DeviceRun.devices c.args.tx v c.hanging_from.result) (sym c.into_seat.ensures)
+    (inl (c.in-Err.refusal, c.hanging_from.ensures, c.in-Err.ensures.stuck))
 
 pub returns-in-Err-record_abort-clause-hanging : goal.returns-in-Err-record_abort-clause-hanging
 returns-in-Err-record_abort-clause-hanging g c =

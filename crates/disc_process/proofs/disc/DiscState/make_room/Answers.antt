@@ -1,13 +1,14 @@
-use Rattle.std.proofs.Common.{◌≡◌, ◌<◌, ◌++◌, None, inr, refl, sym, subst}
+use Rattle.std.proofs.Common.{◌≡◌, ◌<◌, ◌++◌, true, slice_get, None, inr, refl, sym, subst}
 use Rattle.chronicle.specs.Seats.{own_events}
 use Rattle.std.specs.Option.{IsSome}
 use Rattle.keyed_file.specs.Volume.{blocks_of as label_blocks}
-use Rattle.block_cache.specs.Cache.{CacheView, IsCache, KeepsFrames, entry_at, victim_of}
+use Rattle.block_cache.specs.Blocks.{InCache}
+use Rattle.block_cache.specs.Cache.{CacheView, IsCache, KeepsFrames, entry_at, frame_at, is_dirty, place_of, victim_of}
 use Rattle.disc_process.specs.Disc.{DiscView}
-use Rattle.disc_process.specs.Draw.{HasMadeRoom, IsClean, drawings, endings}
+use Rattle.disc_process.specs.Draw.{HasBegun, HasMadeRoom, HasSoughtRoom, IsClean, drawings, endings}
 use Rattle.disc_process.proofs.Bringing.{draw_same}
 use Rattle.disc_process.proofs.Caches.{room_made}
-use Rattle.disc_process.proofs.Keeping.{ok_map}
+use Rattle.disc_process.proofs.Keeping.{err_map, ok_map}
 use Rattle.disc_process.proofs.Rooms.{no_room}
 use Rattle.disc_process.proofs.disc.DiscState.make_room.Goals as goal
 
@@ -50,6 +51,8 @@ returns-in-Some-clause-made g c =
         other_number = m.number;
         missing = subst (λ (v : DiscView g.row.D.Denot). entry_at v.blocks.cache c.args.n.file c.args.n.number ≡ None) c.self.view_is exact.0;
         full = subst (λ (v : DiscView g.row.D.Denot). victim_of v.blocks.cache ≡ None) c.self.view_is exact.1;
+        oldest = subst (λ (v : DiscView g.row.D.Denot). frame_at v.blocks.cache (place_of m.file m.number) ≡ slice_get v.blocks.cache.order 0) c.self.view_is exact.2;
+        dirty = subst (λ (v : DiscView g.row.D.Denot). InCache v.blocks.cache m.file m.number (λ x. is_dirty x ≡ true)) c.self.view_is c.in-Some.ensures.some;
         of_one = refl;
       });
       events = events;
@@ -57,3 +60,25 @@ returns-in-Some-clause-made g c =
 
 pub returns-in-None-clause-made : goal.returns-in-None-clause-made
 returns-in-None-clause-made g c = no_room c.args.self.now.blocks c.args.n.file c.args.n.number c.args.self.now.seat
+
+pub returns-in-Some-clause-sought : goal.returns-in-Some-clause-sought
+returns-in-Some-clause-sought g c =
+    let m = c.in-Some.other in
+    let a = c.draw_block-drawn in
+    let old = c.args.self.now in
+    let exact = c.in-Some.ensures.exact in
+    let whole = endings m.file m.number (entry_at old.blocks.cache m.file m.number) ++ drawings m.file m.number (entry_at old.blocks.cache m.file m.number) in
+    err_map a.result (HasBegun c.args.by whole old.seat a.new.self.seat) (HasSoughtRoom c.args.by old.blocks c.args.n.file c.args.n.number old.seat a.new.self.seat)
+    (λ begun. record {
+      whole = whole;
+      room = inr (record {
+        other_file = m.file;
+        other_number = m.number;
+        missing = subst (λ (v : DiscView g.row.D.Denot). entry_at v.blocks.cache c.args.n.file c.args.n.number ≡ None) c.self.view_is exact.0;
+        full = subst (λ (v : DiscView g.row.D.Denot). victim_of v.blocks.cache ≡ None) c.self.view_is exact.1;
+        oldest = subst (λ (v : DiscView g.row.D.Denot). frame_at v.blocks.cache (place_of m.file m.number) ≡ slice_get v.blocks.cache.order 0) c.self.view_is exact.2;
+        dirty = subst (λ (v : DiscView g.row.D.Denot). InCache v.blocks.cache m.file m.number (λ x. is_dirty x ≡ true)) c.self.view_is c.in-Some.ensures.some;
+        of_one = refl;
+      });
+      begun = begun;
+    }) a.ensures.begun
