@@ -2,7 +2,7 @@
 use std::fmt::Write;
 use std::test::Fail;
 use tmf_model::{Action, Close, Item, Op, Phase, Script, Transaction};
-use tmf_script::{ParseError, next_line, next_word, parse};
+use tmf_script::{ParseError, bank_text, next_line, next_word, parse};
 
 /// The three lines of a head.
 const HEAD: &str = "trail A\nvolume $D A\nfile F $D 4\n";
@@ -646,5 +646,55 @@ fn lines_and_words(rt: HostRuntime) -> Result<(), Fail> {
         text = after;
     }
     assert_eq!(rt; shown.as_str(), "<run><kill><3>||<worker>|");
+    Ok(())
+}
+
+/// How many items each worker of the script's runs has.
+fn items_of_workers(rt: &HostRuntime, script: &Script) -> Result<String, Fail> {
+    let mut found = String::new(rt.alloc());
+    for action in script.actions.as_slice() {
+        if let Action::Run(phase) = action {
+            for worker in phase.workers.as_slice() {
+                write!(found, "{} ", worker.len())?;
+            }
+        }
+    }
+    Ok(found)
+}
+
+#[test]
+fn bank_workload(rt: HostRuntime) -> Result<(), Fail> {
+    let wanted = [
+        "trail AUX1\ntrail AUX2\nvolume $DATA1 AUX1\nvolume $DATA2 AUX2\n",
+        "file ACCT $DATA1 16\nfile TELLER $DATA2 4\nformat\nrun\n",
+        "worker\nbegin\nput ACCT A10 1000\nput ACCT A11 1000\nput ACCT A12 1000\nput ACCT A13 1000\nput ACCT A14 1000\n",
+        "put ACCT A15 1000\nput ACCT A16 1000\nput ACCT A17 1000\nput ACCT A18 1000\nput ACCT A19 1000\nput TELLER T1 0\ncommit\n",
+        "begin\nadd ACCT A11 -2\nadd ACCT A10 2\nadd TELLER T1 1\ncommit\n",
+        "worker\nbegin\nput ACCT A20 1000\nput ACCT A21 1000\nput ACCT A22 1000\nput ACCT A23 1000\nput ACCT A24 1000\n",
+        "put ACCT A25 1000\nput ACCT A26 1000\nput ACCT A27 1000\nput ACCT A28 1000\nput ACCT A29 1000\nput TELLER T2 0\ncommit\n",
+        "begin\nadd ACCT A21 -2\nadd ACCT A20 2\nadd TELLER T2 1\ncommit\n",
+        "worker\nbegin\nput ACCT A30 1000\nput ACCT A31 1000\nput ACCT A32 1000\nput ACCT A33 1000\nput ACCT A34 1000\n",
+        "put ACCT A35 1000\nput ACCT A36 1000\nput ACCT A37 1000\nput ACCT A38 1000\nput ACCT A39 1000\nput TELLER T3 0\ncommit\n",
+        "begin\nadd ACCT A31 -2\nadd ACCT A30 2\nadd TELLER T3 1\ncommit\n",
+        "worker\nbegin\nput ACCT A40 1000\nput ACCT A41 1000\nput ACCT A42 1000\nput ACCT A43 1000\nput ACCT A44 1000\n",
+        "put ACCT A45 1000\nput ACCT A46 1000\nput ACCT A47 1000\nput ACCT A48 1000\nput ACCT A49 1000\nput TELLER T4 0\ncommit\n",
+        "begin\nadd ACCT A41 -2\nadd ACCT A40 2\nadd TELLER T4 1\ncommit\n",
+        "end\nrecover\nlist ACCT\nlist TELLER\n",
+    ];
+    let text = bank_text(rt.alloc(), 1)?;
+    assert_eq!(rt;
+        str::from_utf8(text.as_slice())?,
+        text_of(&rt, "", &wanted, "")?.as_str()
+    );
+    let script = parse(rt.alloc(), text.as_slice()).ok().ok_or("a script")?;
+    assert_eq!(rt; items_of_workers(&rt, &script)?.as_str(), "2 2 2 2 ");
+    let longest = bank_text(rt.alloc(), 4095)?;
+    let script = parse(rt.alloc(), longest.as_slice())
+        .ok()
+        .ok_or("a script")?;
+    assert_eq!(rt;
+        items_of_workers(&rt, &script)?.as_str(),
+        "4096 4096 4096 4096 "
+    );
     Ok(())
 }

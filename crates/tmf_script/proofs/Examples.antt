@@ -9,6 +9,7 @@ use Rattle.tmf_model.specs.declared.script.Script.{Script}
 use Rattle.tmf_script.specs.declared.fault.Why.TheVariants.{BadByte, UnknownWord, WrongPlace, NoVolume, WrongForm, BadWord, BadNumber, UnknownName, SameName}
 use Rattle.tmf_script.specs.declared.keyword.Keyword.TheVariants as word
 use Rattle.tmf_script.specs.declared.line.Line.TheVariants as line
+use Rattle.tmf_script.specs.Bank.{bank_text, written_lines, transfer_lines}
 use Rattle.tmf_script.specs.Field.{count_of, number_text}
 use Rattle.tmf_script.specs.Line.{keyword_of, line_of}
 use Rattle.tmf_script.specs.Reading.{after_words, after_line, after_end, IsTextOf, FailsAtLine, FailsAtEnd}
@@ -216,3 +217,34 @@ twice = refl
 declared_twice : answer_of start 1 (codes "trail A" ∷ codes "volume $D A" ∷ codes "trail A" ∷ []) ≡ Err (3, SameName)
 unfolding answer_of after_line after_words keyword_of line_of taken with_trail with_volume
 declared_twice = refl
+
+-- the bank workload
+
+-- with one transfer of each worker
+bank_of_one : bank_text 1
+    ≡ codes "trail AUX1\ntrail AUX2\nvolume $DATA1 AUX1\nvolume $DATA2 AUX2\nfile ACCT $DATA1 16\nfile TELLER $DATA2 4\nformat\n"
+    ++ (codes "run\n"
+    ++ (codes "worker\nbegin\nput ACCT A10 1000\nput ACCT A11 1000\nput ACCT A12 1000\nput ACCT A13 1000\nput ACCT A14 1000\n"
+    ++ (codes "put ACCT A15 1000\nput ACCT A16 1000\nput ACCT A17 1000\nput ACCT A18 1000\nput ACCT A19 1000\nput TELLER T1 0\ncommit\n"
+    ++ (codes "begin\nadd ACCT A11 -2\nadd ACCT A10 2\nadd TELLER T1 1\ncommit\n"
+    ++ (codes "worker\nbegin\nput ACCT A20 1000\nput ACCT A21 1000\nput ACCT A22 1000\nput ACCT A23 1000\nput ACCT A24 1000\n"
+    ++ (codes "put ACCT A25 1000\nput ACCT A26 1000\nput ACCT A27 1000\nput ACCT A28 1000\nput ACCT A29 1000\nput TELLER T2 0\ncommit\n"
+    ++ (codes "begin\nadd ACCT A21 -2\nadd ACCT A20 2\nadd TELLER T2 1\ncommit\n"
+    ++ (codes "worker\nbegin\nput ACCT A30 1000\nput ACCT A31 1000\nput ACCT A32 1000\nput ACCT A33 1000\nput ACCT A34 1000\n"
+    ++ (codes "put ACCT A35 1000\nput ACCT A36 1000\nput ACCT A37 1000\nput ACCT A38 1000\nput ACCT A39 1000\nput TELLER T3 0\ncommit\n"
+    ++ (codes "begin\nadd ACCT A31 -2\nadd ACCT A30 2\nadd TELLER T3 1\ncommit\n"
+    ++ (codes "worker\nbegin\nput ACCT A40 1000\nput ACCT A41 1000\nput ACCT A42 1000\nput ACCT A43 1000\nput ACCT A44 1000\n"
+    ++ (codes "put ACCT A45 1000\nput ACCT A46 1000\nput ACCT A47 1000\nput ACCT A48 1000\nput ACCT A49 1000\nput TELLER T4 0\ncommit\n"
+    ++ (codes "begin\nadd ACCT A41 -2\nadd ACCT A40 2\nadd TELLER T4 1\ncommit\n"
+    ++ codes "end\nrecover\nlist ACCT\nlist TELLER\n")))))))))))))
+unfolding bank_text digits
+bank_of_one = refl
+
+-- the first transfer that moves 1 again, and the first of three digits
+hundredth : written_lines (transfer_lines 2 100) ≡ codes "begin\nadd ACCT A20 -1\nadd ACCT A23 1\nadd TELLER T2 1\ncommit\n"
+unfolding digits
+hundredth = refl
+
+ninety_ninth : written_lines (transfer_lines 3 99) ≡ codes "begin\nadd ACCT A39 -100\nadd ACCT A36 100\nadd TELLER T3 1\ncommit\n"
+unfolding digits
+ninety_ninth = refl

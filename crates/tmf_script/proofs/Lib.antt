@@ -1,3 +1,5 @@
+pub mod BankScript
+pub mod BankTexts
 pub mod Blanks
 pub mod Examples
 pub mod Fits
@@ -8,3 +10,4 @@ pub mod Readings
 pub mod TextFronts
 pub mod Validity
 pub mod WrittenAgain
+pub mod WrittenTexts

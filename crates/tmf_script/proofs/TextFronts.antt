@@ -50,7 +50,7 @@ words_of-front byte (next ∷ word) rest none behind =
     let later : IsTrue (has_no_blank (next ∷ word)) = grind arith in
     word_goes_on byte ((next ∷ word) ++ rest) here there ∙ ap (onto_first byte) (words_of-front next word rest later behind)
 
-front_word : (word rest : List ℕ) → 0 < length word → IsTrue (has_no_blank word) → begins_word rest ≡ false
+pub front_word : (word rest : List ℕ) → 0 < length word → IsTrue (has_no_blank word) → begins_word rest ≡ false
     → words_of (word ++ rest) ≡ word ∷ words_of rest
 front_word [] rest some none behind = absurd (omega arith)
 front_word (byte ∷ word) rest some none behind = words_of-front byte word rest none behind

@@ -7,3 +7,4 @@ pub mod Sentences
 pub mod Written
 pub mod State
 pub mod Reading
+pub mod Bank

@@ -1,7 +1,9 @@
 //! Laws of the language: what its grammar means for those who write scripts.
 ghost use Rattle.std.specs.Prelude.{◌≡◌, ◌⊎◌, ℕ, ◌≤◌, List, ◌∷◌, ◌++◌, length, take, IsTrue};
+ghost use Rattle.tmf_model.specs.Script.{IsValidScript};
 ghost use Rattle.tmf_model.specs.declared.script.Script.{Script};
 ghost use Rattle.tmf_script.specs.declared.fault.Why.{Why};
+ghost use Rattle.tmf_script.specs.Bank.{bank_text, bank_script};
 ghost use Rattle.tmf_script.specs.Reading.{most_bytes, IsTextOf, FailsAtLine, IsRefused};
 ghost use Rattle.tmf_script.specs.Sentences.{sentences_of, IsPlain, SaysTheSame};
 ghost use Rattle.tmf_script.specs.Written.{script_sentences, CanBeWritten};
@@ -49,4 +51,10 @@ pub fn no_repair()
 pub fn each_script_has_words()
     ensures { (text : List ℕ) (script : Script) → IsPlain text → CanBeWritten script
         → sentences_of (lines_of text) ≡ script_sentences script → IsTextOf text script }
+{}
+
+/// The text of the bank workload is a script, which one it is, and that it is valid.
+pub fn bank_is_a_script()
+    ensures script { (n : ℕ) → n ≤ 4095 → IsTextOf (bank_text n) (bank_script n) }
+    ensures valid { (n : ℕ) → n ≤ 4095 → IsValidScript (bank_script n) }
 {}

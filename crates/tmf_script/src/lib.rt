@@ -2,6 +2,7 @@
 #![tactic(auto)]
 
 mod act;
+mod bank;
 mod declare;
 mod fault;
 mod field;
@@ -14,7 +15,8 @@ mod state;
 mod take;
 mod words;
 
+pub use bank::bank_text;
 pub use fault::{ParseError, Why};
-pub use laws::{each_script_has_words, no_repair, one_answer, only_words_count};
+pub use laws::{bank_is_a_script, each_script_has_words, no_repair, one_answer, only_words_count};
 pub use reader::parse;
 pub use words::{next_line, next_word};
