@@ -1,9 +1,9 @@
 //! The words that the program is called with, by a table.
 use std::test::Fail;
-use tmf_lines::{accepts, dir_of};
+use tmf_lines::{accepts, bank_of, dir_of};
 
 // The words of each call, with a bar between two of them, and the folder of those that are accepted.
-const CALLS: [(&str, Option<Option<&str>>); 26] = [
+const CALLS: [(&str, Option<Option<&str>>); 52] = [
     ("tmf|run", Some(None)),
     ("|run", Some(None)),
     ("tmf|run|--dir|D", Some(Some("D"))),
@@ -30,10 +30,36 @@ const CALLS: [(&str, Option<Option<&str>>); 26] = [
     ("tmf|run|--dir|D|--dir|D", None),
     ("tmf|run|--dir=D|--dir=D", None),
     ("tmf|--dir|D|run", None),
+    ("tmf|bank|5", Some(None)),
+    ("tmf|bank|4095", Some(None)),
+    ("tmf|bank|5|--dir|d", Some(Some("d"))),
+    ("tmf|bank|5|--dir=d", Some(Some("d"))),
+    ("tmf|bank|--dir|d|5", Some(Some("d"))),
+    ("tmf|bank|--dir=d|5", Some(Some("d"))),
+    ("tmf|bank|--dir|5|5", Some(Some("5"))),
+    ("tmf|bank", None),
+    ("tmf|bank|", None),
+    ("tmf|bank|0", None),
+    ("tmf|bank|4096", None),
+    ("tmf|bank|4294967301", None),
+    ("tmf|bank|007", None),
+    ("tmf|bank|+5", None),
+    ("tmf|bank|-5", None),
+    ("tmf|bank|5 ", None),
+    ("tmf|bank|5|5", None),
+    ("tmf|bank|5|run", None),
+    ("tmf|bank|5|--dir", None),
+    ("tmf|bank|--dir|5", None),
+    ("tmf|bank|5|--dir=", None),
+    ("tmf|bank|5|--dir|-x", None),
+    ("tmf|bank|--dir=d", None),
+    ("tmf|bank|--dir=d|5|--dir=d", None),
+    ("tmf|run|5", None),
+    ("tmf|5|bank", None),
 ];
 
 #[test]
-fn a_run_may_name_a_folder(rt: HostRuntime) -> Result<(), Fail> {
+fn a_call_may_name_a_folder(rt: HostRuntime) -> Result<(), Fail> {
     let alloc = rt.alloc();
     assert!(rt; !accepts(&[]) && dir_of(&[]).is_none());
     for (call, answer) in CALLS {
@@ -43,6 +69,32 @@ fn a_run_may_name_a_folder(rt: HostRuntime) -> Result<(), Fail> {
         }
         assert_eq!(rt; accepts(&words), answer.is_some(), "{call}");
         assert!(rt; dir_of(&words) == answer.flatten(), "{call}");
+    }
+    Ok(())
+}
+
+// The words of each call, and the number of transfers that they ask for.
+const NUMBERS: [(&str, Option<u32>); 9] = [
+    ("tmf|bank|1", Some(1)),
+    ("tmf|bank|4095|--dir=d", Some(4095)),
+    ("tmf|bank|--dir|7|50", Some(50)),
+    ("tmf|bank|--dir=d|607", Some(607)),
+    ("tmf|bank|0", None),
+    ("tmf|bank|4096", None),
+    ("tmf|bank|5|6", None),
+    ("tmf|run", None),
+    ("tmf|run|--dir|5", None),
+];
+
+#[test]
+fn a_bank_run_has_a_number(rt: HostRuntime) -> Result<(), Fail> {
+    let alloc = rt.alloc();
+    for (call, answer) in NUMBERS {
+        let mut words = Vec::new(alloc);
+        for word in call.split('|') {
+            words.push(String::from_str(alloc, word)?)?;
+        }
+        assert!(rt; bank_of(&words) == answer, "{call}");
     }
     Ok(())
 }

@@ -71,8 +71,8 @@ rollforwards : lines_text
 unfolding digits
 rollforwards = refl
 
--- a line of a text that is no script
-refused_lines : lines_text (line.NotScript 3 why.WrongPlace ∷ []) ≡ text_of (codes "line 3 wrong place" ∷ [])
+-- a line of a text that is no script, and that of words that are not accepted
+refused_lines : lines_text (line.NotScript 3 why.WrongPlace ∷ line.Usage ∷ []) ≡ text_of (codes "line 3 wrong place" ∷ codes "usage: tmf run [--dir DIR] or tmf bank N [--dir DIR]" ∷ [])
 unfolding digits
 refused_lines = refl
 

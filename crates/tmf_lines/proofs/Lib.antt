@@ -1,4 +1,7 @@
+pub mod BankExamples
+pub mod Counts
 pub mod Examples
 pub mod LineTexts
 pub mod Reports
+pub mod Sums
 pub mod UnderWay

@@ -2,4 +2,5 @@
 pub mod Line
 pub mod Report
 pub mod Script
+pub mod Summary
 pub mod Words

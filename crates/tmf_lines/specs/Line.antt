@@ -121,7 +121,7 @@ line_text (ListFailed file device) = codes "list " ++ file ++ codes " failed " +
 line_text (ListDamaged file device damage) = codes "list " ++ file ++ codes " damaged " ++ device ++ codes " " ++ damage_text damage
 line_text (NotScript line why) = codes "line " ++ decimal line ++ codes " " ++ why_text why
 line_text (Stopped device trouble) = codes "stopped " ++ device ++ codes " " ++ trouble_text trouble
-line_text Usage = codes "usage: tmf run [--dir DIR]"
+line_text Usage = codes "usage: tmf run [--dir DIR] or tmf bank N [--dir DIR]"
 
 -- lines with their ends
 abbrev pub lines_text : List Line → List ℕ

@@ -6,6 +6,7 @@ mod output;
 mod pieces;
 mod report;
 mod script;
+mod summary;
 mod words;
 
 pub use line::{ActionKind, DeviceName, DeviceTrouble, Line, PartName, add_line};
@@ -15,4 +16,5 @@ pub use report::{
     recovery_lines, spent_line, volume_name,
 };
 pub use script::{ScriptRefusal, read_script};
-pub use words::{accepts, dir_of};
+pub use summary::{Summary, give_summary};
+pub use words::{accepts, bank_of, dir_of};

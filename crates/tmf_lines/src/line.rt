@@ -321,7 +321,7 @@ impl fmt::Display for Line {
             }
             Line::NotScript(line, why) => write!(f, "line {line} {why}"),
             Line::Stopped(device, trouble) => write!(f, "stopped {device} {trouble}"),
-            Line::Usage => write!(f, "usage: tmf run [--dir DIR]"),
+            Line::Usage => write!(f, "usage: tmf run [--dir DIR] or tmf bank N [--dir DIR]"),
         }
     }
 }
