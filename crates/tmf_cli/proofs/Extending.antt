@@ -55,14 +55,6 @@ pub all-append : {T : Type 0} (P : T → Type 0) (xs ys : List T) → AllByRecur
 all-append P [] ys all others = others
 all-append P (x ∷ xs) ys all others = (all.0, all-append P xs ys all.1 others)
 
-all-front : {T : Type 0} (P : T → Type 0) (xs ys : List T) → AllByRecursion P (xs ++ ys) → AllByRecursion P xs
-all-front P [] ys all = tt
-all-front P (x ∷ xs) ys all = (all.0, all-front P xs ys all.1)
-
-all-behind : {T : Type 0} (P : T → Type 0) (xs ys : List T) → AllByRecursion P (xs ++ ys) → AllByRecursion P ys
-all-behind P [] ys all = all
-all-behind P (x ∷ xs) ys all = all-behind P xs ys all.1
-
 pub oneof-front : {T : Type 0} (P : T → Type 0) (xs ys : List T) → OneOf P xs → OneOf P (xs ++ ys)
 oneof-front P [] ys one = absurd one
 oneof-front P (x ∷ xs) ys one = ⊎_elim inl (λ rest. inr (oneof-front P xs ys rest)) one
@@ -170,7 +162,7 @@ quiet-tell lines quiet tx place there = silent-tell lines (silent-of lines quiet
 given_none : {T U : Type 0} (h : T → Option U) (x : T) (xs : List T) → h x ≡ None → filter_map h (x ∷ xs) ≡ filter_map h xs
 given_none h x xs none = ap (λ o. cons_option o (filter_map h xs)) none
 
-silent-none : (lines : List Line) → AreSilent lines → acknowledged lines ≡ []
+pub silent-none : (lines : List Line) → AreSilent lines → acknowledged lines ≡ []
 silent-none [] quiet = refl
 silent-none (line ∷ lines) quiet = given_none acknowledged_by line lines quiet.0.0 ∙ silent-none lines quiet.1
 
@@ -214,8 +206,8 @@ extend-more config most low middle high first more lines others s t u a b =
           (λ later. told-behind lines others b.in_flight tx (b.no_other tx later)) (Contains-append_cases a.records b.records (Commit tx) there);
       in_order = λ single.
           filter_map-append committed_by a.records b.records
-          ∙ ap (λ l. l ++ commits_of b.records) (a.in_order (all-front (λ run. IsSingle config run.phase) first more single) ∙ ap (λ l. acknowledged lines ++ l) (none-left a.in_flight a.few) ∙ append-nil (acknowledged lines))
-          ∙ ap (λ l. acknowledged lines ++ l) (b.in_order (all-behind (λ run. IsSingle config run.phase) first more single)) ∙ sym (append_assoc (acknowledged lines) (acknowledged others) b.in_flight)
+          ∙ ap (λ l. l ++ commits_of b.records) (a.in_order (λ run tx of there. single run tx (Contains-append_left first more run of) (Contains-append_left a.records b.records (Commit tx) there)) ∙ ap (λ l. acknowledged lines ++ l) (none-left a.in_flight a.few) ∙ append-nil (acknowledged lines))
+          ∙ ap (λ l. acknowledged lines ++ l) (b.in_order (λ run tx of there. single run tx (Contains-append_right first more run of) (Contains-append_right a.records b.records (Commit tx) there))) ∙ sym (append_assoc (acknowledged lines) (acknowledged others) b.in_flight)
           ∙ ap (λ l. l ++ b.in_flight) (sym (filter_map-append acknowledged_by lines others));
       places = λ tx place there.
           ⊎_elim (λ here. let at = a.places tx place here in (at.0, stays-at t.list b.records u.list (place - 1) (Commit tx) b.list at.1)) (λ later. let at = b.places tx place later in (behind-more at.0, at.1))
@@ -368,6 +360,19 @@ slice_get-behind (x ∷ xs) ys k = ap (λ n. slice_get (x ∷ (xs ++ ys)) n) (sh
     shifted : (n k : ℕ) → suc n + k ≡ suc (n + k)
     shifted n k = omega arith
 
+-- what stands at a number of a list is in it
+contains-at : {T : Type 0} (xs : List T) (n : ℕ) (x : T) → slice_get xs n ≡ Some x → Contains xs x
+contains-at [] n x at = absurd (cc at)
+contains-at (y ∷ xs) zero x at = (zero, omega arith, cc at)
+contains-at (y ∷ xs) (suc n) x at = let is = contains-at xs n x at in (suc is.0, omega (arith, is.1), is.2)
+
+-- what stands at a place behind the first list is in the second
+pub behind-there : {T : Type 0} (xs ys : List T) (place : ℕ) (x : T) → length xs < place → slice_get (xs ++ ys) (place - 1) ≡ Some x → Contains ys x
+behind-there xs ys place x behind at =
+    let k = (place - 1) - length xs in
+    let split : length xs + k ≡ place - 1 = omega (arith, behind) in
+    contains-at ys k x (sym (slice_get-behind xs ys k) ∙ ap (λ n. slice_get (xs ++ ys) n) split ∙ at)
+
 -- THE OUTCOMES OF A RUN
 
 abbrev pub committed_of : Line → Option (Transid × ℕ)
@@ -494,6 +499,13 @@ commit-among [] tx there = absurd (nothing-in (Commit tx) there)
 commit-among (x ∷ rest) tx (zero, lt, is) = subst (λ y. Contains (commits_of (y ∷ rest)) tx) (sym is) (0, omega arith, refl)
 commit-among (x ∷ rest) tx (suc k, lt, is) =
     subst (λ l. Contains l tx) (sym (filter_map-append committed_by (x ∷ []) rest)) (Contains-append_right (commits_of (x ∷ [])) (commits_of rest) tx (commit-among rest tx (k, omega (arith, lt), is)))
+
+-- records without that of a commit have no commits
+pub no-commits : (records : List MonitorRecord) → ((tx : Transid) → Contains records (Commit tx) → ⊥) → commits_of records ≡ []
+no-commits [] none = refl
+no-commits (Start e ∷ rest) none = no-commits rest (λ tx c. none tx (Contains-append_right (Start e ∷ []) rest (Commit tx) c))
+no-commits (Commit t ∷ rest) none = absurd (none t (0, omega arith, refl))
+no-commits (Abort t ∷ rest) none = no-commits rest (λ tx c. none tx (Contains-append_right (Abort t ∷ []) rest (Commit tx) c))
 
 -- so each is one that these acknowledge, or in flight
 landed-told : (done next all : List Outcome) → all ≡ done ++ next → (config : Config) (tx : Transid) → Contains (records_left all) (Commit tx) → IsToldOf (outcome_lines config done) (commits_of (records_left next)) tx

@@ -96,7 +96,7 @@ module _ {D : Type 0} (faults : D → ℕ) where
             ⊎_elim (λ end. omega (arith, small, before.2, more, end.1)) (λ below. omega (arith, before.2, rise.rose below.1)) (leb_tells (2 ^ 64 - 1) (fuse_faults faults rise.before));
       }
 
-  same-faults : (a b : Fuse D) → IsSwitched a b → fuse_faults faults b ≡ fuse_faults faults a
+  pub same-faults : (a b : Fuse D) → IsSwitched a b → fuse_faults faults b ≡ fuse_faults faults a
   same-faults a b is = ap (λ d. faults d + cuts_of b) is.0 ∙ ap (λ n. faults (device_of a) + n) is.1
 
   -- a count that has risen while the countdown was on has risen over the action

@@ -67,7 +67,7 @@ use Rattle.tmf_cli.proofs.Unbroken.{attempt-item, item-named, undamaged}
 one-faultless : (line : Line) (lines : List Line) → IsFaultless line → lines ≡ line ∷ [] → AreFaultless lines
 one-faultless line lines fine is = subst AreFaultless (sym is) (fine, tt)
 
-faultless-recovered : (config : Config) (printed : ℕ) (list : List MonitorRecord) (lost : List ℕ) (epoch : ℕ) → AreFaultless (recovered_lines config printed list lost epoch)
+pub faultless-recovered : (config : Config) (printed : ℕ) (list : List MonitorRecord) (lost : List ℕ) (epoch : ℕ) → AreFaultless (recovered_lines config printed list lost epoch)
 faultless-recovered config printed list lost epoch =
     all-append IsFaultless (drop printed (recorded_lines list) ++ lost_lines config lost) (Recovered epoch ∷ [])
     (all-append IsFaultless (drop printed (recorded_lines list)) (lost_lines config lost)
@@ -75,7 +75,7 @@ faultless-recovered config printed list lost epoch =
     (all-map IsFaultless (λ volume. LostVolume (volume_name config volume)) (λ a. tt) lost))
     (tt, tt)
 
-faultless-listed : (file : List ℕ) (entries : List (List ℕ × List ℕ)) → AreFaultless (listed_lines file entries)
+pub faultless-listed : (file : List ℕ) (entries : List (List ℕ × List ℕ)) → AreFaultless (listed_lines file entries)
 faultless-listed file entries =
     all-append IsFaultless (map (λ entry. Entry file entry.0 entry.1) entries) (Listed file (length entries) ∷ []) (all-map IsFaultless (λ entry. Entry file entry.0 entry.1) (λ a. tt) entries) (tt, tt)
 
@@ -83,7 +83,7 @@ faultless-read : (tx : Transid) (op : ℕ) (value : Option (List ℕ)) → IsFau
 faultless-read tx op None = tt
 faultless-read tx op (Some value) = tt
 
-faultless-reads : (tx : Transid) (reads : List (ℕ × Option (List ℕ))) → AreFaultless (read_lines tx reads)
+pub faultless-reads : (tx : Transid) (reads : List (ℕ × Option (List ℕ))) → AreFaultless (read_lines tx reads)
 faultless-reads tx reads = all-map IsFaultless (λ (read : ℕ × Option (List ℕ)). read_line tx read.0 read.1) (λ read. faultless-read tx read.0 read.1) reads
 
 -- a run of one worker that is whole tells of no fault
@@ -93,7 +93,7 @@ faultless-end config tx end.Aborted = (tt, tt)
 faultless-end config tx (end.Refused op reason) = (tt, tt)
 faultless-end config tx (end.Full file key) = (tt, tt)
 
-faultless-outcomes : (config : Config) (outcomes : List Outcome) → AreFaultless (outcome_lines config outcomes)
+pub faultless-outcomes : (config : Config) (outcomes : List Outcome) → AreFaultless (outcome_lines config outcomes)
 faultless-outcomes config [] = tt
 faultless-outcomes config (o ∷ rest) = all-append IsFaultless (end_lines config o.tx o.end) (outcome_lines config rest) (faultless-end config o.tx o.end) (faultless-outcomes config rest)
 

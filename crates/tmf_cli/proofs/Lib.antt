@@ -1,9 +1,13 @@
 pub mod Acts
 pub mod Bays
 pub mod Countdowns
+pub mod CountedLines
+pub mod Counting
+pub mod DeviceNames
 pub mod Dumps
 pub mod Examples
 pub mod Extending
+pub mod FailedCalls
 pub mod Faultless
 pub mod FaultlessLines
 pub mod Headlines

@@ -29,7 +29,7 @@ use Rattle.tmf_cli.specs.OutputLaw.{Candidate, GoesOn, with_records}
 use Rattle.tmf_cli.specs.Outcomes.{read_lines}
 use Rattle.tmf_cli.specs.RunLines.{hang_line, run_lines, told_lines}
 use Rattle.tmf_cli.specs.Single.{IsSingle}
-use Rattle.tmf_cli.proofs.Extending.{AreSilent, AreStill, IsQuiet, all-append, all-weaker, commits-agree, committed_of, last_epoch-more, meaning-one, nothing-in, one-in, quiet-reads, quiet-tell, silent-tell, slice_get-behind, some_same, stays-at, still-lost}
+use Rattle.tmf_cli.proofs.Extending.{AreSilent, AreStill, IsQuiet, all-append, all-weaker, commits-agree, committed_of, behind-there, last_epoch-more, meaning-one, no-commits, nothing-in, one-in, quiet-reads, quiet-tell, silent-none, silent-tell, slice_get-behind, some_same, stays-at, still-lost}
 
 -- THE LINES OF A RUN
 
@@ -81,31 +81,48 @@ run-still config outcomes = all-weaker IsPlain (λ line. move_of line ≡ None) 
 abbrev Tells : List Outcome → Transid → ℕ → Type 0
 Tells outcomes tx place = (o : Outcome) × (reads : List (ℕ × Option (List ℕ))) × Contains outcomes o × (o.tx ≡ tx) × (o.told ≡ told.Committed place reads)
 
-no-line : (config : Config) (u : Transid) (tells : Told) (tx : Transid) (place : ℕ) → AreSilent (told_lines config u tells) → Contains (told_lines config u tells) (Committed tx place)
-    → (reads : List (ℕ × Option (List ℕ))) × (u ≡ tx) × (tells ≡ told.Committed place reads)
-no-line config u tells tx place silent there = absurd (silent-tell (told_lines config u tells) silent tx place there)
+committed-or-silent : (config : Config) (u : Transid) (tells : Told) → AreSilent (told_lines config u tells) ⊎ ((place : ℕ) × (reads : List (ℕ × Option (List ℕ))) × (tells ≡ told.Committed place reads))
+committed-or-silent config u (told.Committed place reads) = inr (place, reads, refl)
+committed-or-silent config u told.Aborted = inl ((refl, refl), tt)
+committed-or-silent config u (told.Busy file key holder) = inl ((refl, refl), tt)
+committed-or-silent config u (told.Full file key) = inl ((refl, refl), tt)
+committed-or-silent config u (told.Refused op reason) = inl ((refl, refl), tt)
+committed-or-silent config u (told.Spent part) = inl (spent-silent u (part_name config part)).0
+committed-or-silent config u (told.Failed device) = inl ((refl, refl), tt)
+committed-or-silent config u (told.Damaged device damage) = inl ((refl, refl), tt)
+committed-or-silent config u (told.InDoubt device) = inl ((refl, refl), tt)
+committed-or-silent config u (told.Hanging why) = inl (hang-silent config u why).0
+committed-or-silent config u told.Skipped = inl ((refl, refl), tt)
+committed-or-silent config u told.Memory = inl ((refl, refl), tt)
+committed-or-silent config u (told.Controlled volume low) = inl ((refl, refl), tt)
+committed-or-silent config u (told.Dumped volume start) = inl ((refl, refl), tt)
+committed-or-silent config u (told.Dumping volume) = inl ((refl, refl), tt)
 
-line-told : (config : Config) (u : Transid) (tells : Told) (tx : Transid) (place : ℕ) → Contains (told_lines config u tells) (Committed tx place) → (reads : List (ℕ × Option (List ℕ))) × (u ≡ tx) × (tells ≡ told.Committed place reads)
-line-told config u (told.Committed p reads) tx place there =
+committed-line : (u : Transid) (p : ℕ) (reads : List (ℕ × Option (List ℕ))) (tx : Transid) (place : ℕ) → Contains (Committed u p ∷ read_lines u reads) (Committed tx place) → (u ≡ tx) × (p ≡ place)
+committed-line u p reads tx place there =
     ⊎_elim (λ head.
     let same = some_same (u, p) (tx, place) (ap committed_of (one-in (Committed u p) (Committed tx place) head)) in
-    (reads, ap (λ (x : Transid × ℕ). x.0) same, ap (λ (x : Transid × ℕ). told.Committed x.1 reads) same))
+    (ap (λ (x : Transid × ℕ). x.0) same, ap (λ (x : Transid × ℕ). x.1) same))
     (λ read. absurd (quiet-tell (read_lines u reads) (quiet-reads u reads) tx place read))
     (Contains-append_cases (Committed u p ∷ []) (read_lines u reads) (Committed tx place) there)
-line-told config u told.Aborted tx place there = no-line config u told.Aborted tx place ((refl, refl), tt) there
-line-told config u (told.Busy file key holder) tx place there = no-line config u (told.Busy file key holder) tx place ((refl, refl), tt) there
-line-told config u (told.Full file key) tx place there = no-line config u (told.Full file key) tx place ((refl, refl), tt) there
-line-told config u (told.Refused op reason) tx place there = no-line config u (told.Refused op reason) tx place ((refl, refl), tt) there
-line-told config u (told.Spent part) tx place there = no-line config u (told.Spent part) tx place (spent-silent u (part_name config part)).0 there
-line-told config u (told.Failed device) tx place there = no-line config u (told.Failed device) tx place ((refl, refl), tt) there
-line-told config u (told.Damaged device damage) tx place there = no-line config u (told.Damaged device damage) tx place ((refl, refl), tt) there
-line-told config u (told.InDoubt device) tx place there = no-line config u (told.InDoubt device) tx place ((refl, refl), tt) there
-line-told config u (told.Hanging why) tx place there = no-line config u (told.Hanging why) tx place (hang-silent config u why).0 there
-line-told config u told.Skipped tx place there = no-line config u told.Skipped tx place ((refl, refl), tt) there
-line-told config u told.Memory tx place there = no-line config u told.Memory tx place ((refl, refl), tt) there
-line-told config u (told.Controlled volume low) tx place there = no-line config u (told.Controlled volume low) tx place ((refl, refl), tt) there
-line-told config u (told.Dumped volume start) tx place there = no-line config u (told.Dumped volume start) tx place ((refl, refl), tt) there
-line-told config u (told.Dumping volume) tx place there = no-line config u (told.Dumping volume) tx place ((refl, refl), tt) there
+
+line-told : (config : Config) (u : Transid) (tells : Told) (tx : Transid) (place : ℕ) → Contains (told_lines config u tells) (Committed tx place) → (reads : List (ℕ × Option (List ℕ))) × (u ≡ tx) × (tells ≡ told.Committed place reads)
+line-told config u tells tx place there =
+    ⊎_elim (λ silent. absurd (silent-tell (told_lines config u tells) silent tx place there))
+    (λ is.
+    let same = committed-line u is.0 is.1 tx place (subst (λ t. Contains (told_lines config u t) (Committed tx place)) is.2 there) in
+    (is.1, same.0, is.2 ∙ ap (λ p. told.Committed p is.1) same.1))
+    (committed-or-silent config u tells)
+
+-- where no outcome tells of a commit, the lines acknowledge none
+silent-run : (config : Config) (outcomes : List Outcome) → ((o : Outcome) (place : ℕ) (reads : List (ℕ × Option (List ℕ))) → Contains outcomes o → o.told ≡ told.Committed place reads → ⊥)
+    → acknowledged (run_lines config outcomes) ≡ []
+silent-run config [] none = refl
+silent-run config (o ∷ rest) none =
+    let first : acknowledged (told_lines config o.tx o.told) ≡ [] =
+    ⊎_elim (λ silent. silent-none (told_lines config o.tx o.told) silent) (λ is. absurd (none o is.0 is.1 (0, omega arith, refl) is.2)) (committed-or-silent config o.tx o.told) in
+    filter_map-append acknowledged_by (told_lines config o.tx o.told) (run_lines config rest) ∙ ap (λ l. l ++ acknowledged (run_lines config rest)) first
+    ∙ silent-run config rest (λ x place reads there. none x place reads (Contains-append_right (o ∷ []) rest x there))
 
 lines-tell : (config : Config) (outcomes : List Outcome) (tx : Transid) (place : ℕ) → Contains (run_lines config outcomes) (Committed tx place) → Tells outcomes tx place
 lines-tell config [] tx place there = absurd (nothing-in (Committed tx place) there)
@@ -196,17 +213,25 @@ extend-threads config phase epoch s outcomes records many same attempts each lan
       no_other = λ tx there.
           let of = each (Commit tx) there in
           ⊎_elim inl (λ doubt. inr (inl doubt)) (subst (IsTold (run_lines config outcomes)) of.tx_is (is-told config outcomes of.outcome of.among of.is_so));
-      in_order = λ single. absurd (many single.0);
+      in_order = λ single.
+          let none : (tx : Transid) → Contains records (Commit tx) → ⊥ = λ tx there. many (single (record { epoch = epoch; phase = phase }) tx (0, omega arith, refl) there (of_epoch tx there)) in
+          no-commits records none
+          ∙ sym (append-nil (acknowledged (run_lines config outcomes))
+          ∙ silent-run config outcomes (λ o place reads there tells. let at = landed o place reads there tells in none o.tx (behind-there s.list records place (Commit o.tx) at.0 at.1)));
       places = λ tx place there.
           let is = lines-tell config outcomes tx place there in
           subst (λ t. (length s.list < place) × (slice_get (s.list ++ records) (place - 1) ≡ Some (Commit t))) is.3 (landed is.0 place is.1 is.2 is.4);
       map = commits-agree (script_transaction phase epoch) (meaning_in (record { epoch = epoch; phase = phase } ∷ [])) records (λ tx there. sym (meaning-one phase epoch tx)) s.map;
       lost = still-lost config (run_lines config outcomes) s.lost (run-still config outcomes);
-      ours = λ tx there.
-          let of = each (Commit tx) there in
-          inl (subst (λ (t : Transid). t.epoch ≡ epoch) of.tx_is (among-epoch epoch outcomes of.outcome (workers-epoch epoch 1 phase.workers outcomes attempts) of.among));
+      ours = λ tx there. inl (of_epoch tx there);
       rising = (omega (arith, same), omega (arith, same, last));
     }
+  where
+    -- each new commit is of the run's epoch
+    of_epoch : (tx : Transid) → Contains records (Commit tx) → tx.epoch ≡ epoch
+    of_epoch tx there =
+        let of = each (Commit tx) there in
+        subst (λ (t : Transid). t.epoch ≡ epoch) of.tx_is (among-epoch epoch outcomes of.outcome (workers-epoch epoch 1 phase.workers outcomes attempts) of.among)
 
 -- What stands in the records that have landed stands in the list at its place, also with those behind them that were offered.
 module _ (config : Config) (phase : Phase) (epoch : ℕ) (s : Candidate) (outcomes : List Outcome) (after : Option (List Candidate)) (many : ¬ IsSingle config phase) (same : epoch ≡ epoch_of s.list) (attempts : AreOutcomesOf phase epoch outcomes)

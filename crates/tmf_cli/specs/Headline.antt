@@ -44,9 +44,9 @@ meaning_in (run ∷ runs) tx = if tx.epoch == run.epoch then script_transaction 
 abbrev pub AreOf : List Action → List RunDone → Type 0
 AreOf actions runs = AllByRecursion (λ run. Contains actions (action.Run run.phase)) runs
 
--- each of the runs is single: of one worker, of transactions alone, not cut off, and with no lowered limit of its events
-abbrev pub AreSingleRuns : Config → List RunDone → Type 0
-AreSingleRuns config runs = AllByRecursion (λ run. IsSingle config run.phase) runs
+-- each run of which the records have a commit is single: of one worker, of transactions alone, not cut off, and with no lowered limit of its events
+abbrev pub AreOfSingle : Config → List RunDone → List MonitorRecord → Type 0
+AreOfSingle config runs records = (run : RunDone) (tx : Transid) → Contains runs run → Contains records (Commit tx) → tx.epoch ≡ run.epoch → IsSingle config run.phase
 
 -- the runs are of rising epochs, the first from `low` on and all below `high`
 abbrev pub AreRising : ℕ → ℕ → List RunDone → Type 0
@@ -108,8 +108,8 @@ pub record Extends (config : Config) (most low high : ℕ) (runs : List RunDone)
   pub in_flight : List Transid
   pub few : length in_flight ≤ most
   pub no_other : (tx : Transid) → Contains records (Commit tx) → Contains (acknowledged lines) tx ⊎ Contains (doubted lines) tx ⊎ Contains in_flight tx
-  -- where each run is single, they are those that the lines acknowledge, in their order, and then those in flight
-  pub in_order : AreSingleRuns config runs → commits_of records ≡ acknowledged lines ++ in_flight
+  -- where each of them is of a single run, they are those that the lines acknowledge, in their order, and then those in flight
+  pub in_order : AreOfSingle config runs records → commits_of records ≡ acknowledged lines ++ in_flight
   -- each acknowledged one is new, and stands at its place
   pub places : (tx : Transid) (place : ℕ) → Contains lines (Committed tx place) → (length s.list < place) × (slice_get t.list (place - 1) ≡ Some (Commit tx))
   -- the map is the fold of the script's transactions over the new commits

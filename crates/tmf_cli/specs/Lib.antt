@@ -2,6 +2,7 @@ pub mod ActionGiven
 pub mod BetweenActions
 pub mod Call
 pub mod Countdown
+pub mod Counts
 pub mod Device
 pub mod Ending
 pub mod Faultless

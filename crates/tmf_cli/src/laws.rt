@@ -1,7 +1,12 @@
 //! Laws above the law of the output.
+ghost use Rattle.std.specs.Prelude.{ℕ, ◌≡◌};
+ghost use Rattle.tmf_cli.specs.Counts.{CountsLaw};
 ghost use Rattle.tmf_cli.specs.Faultless.{FaultlessLaw};
 ghost use Rattle.tmf_cli.specs.Headline.{CallHeadline};
 ghost use Rattle.tmf_cli.specs.OneOutput.{OneOutput};
+ghost use Rattle.tmf_lines.specs.Report.{node_device_name};
+ghost use Rattle.tmf_model.specs.Config.{IsValidConfig};
+ghost use Rattle.volume_recovery.specs.VolumeFormat.{IsNodeDevice};
 
 use disk_model::Disk;
 use tmf_model::Config;
@@ -22,4 +27,15 @@ pub fn headline_law<D: Disk>(config: &Config)
 /// and its devices are; and each attempt and item of a run ends as it was to, or by another attempt, a limit, or want of memory.
 pub fn faultless_law<D: Disk>(config: &Config)
     ensures { FaultlessLaw D.held D.faults config.now }
+{}
+
+/// The lines of a row of actions of a valid script, from any node on, tell of no device more often than a call of it has failed. The clause `counts` of `tmf` says it of a call, however it ends.
+pub fn counts_law<D: Disk>(config: &Config)
+    ensures { CountsLaw D.held D.faults config.now }
+{}
+
+/// No two devices of a valid configuration are printed by one name, so a line that prints the name of one of them names no other one.
+pub fn names_law(config: &Config)
+    requires valid { IsValidConfig config.now }
+    ensures { (a b : ℕ) → IsNodeDevice config.now a → IsNodeDevice config.now b → node_device_name config.now a ≡ node_device_name config.now b → a ≡ b }
 {}

@@ -10,6 +10,7 @@ ghost use Rattle.tmf_cli.specs.ActionGiven.{KeepsSink};
 ghost use Rattle.tmf_cli.specs.BetweenActions.{LeavesBay, OthersRestarted};
 ghost use Rattle.tmf_cli.specs.Call.{AnswersText, AnswersUsage, HasStatus, KeepsBay, KeepsOn};
 ghost use Rattle.tmf_cli.specs.Countdown.{IsOff, NoneCut, NoneKilled, OnceSwitched};
+ghost use Rattle.tmf_cli.specs.Counts.{CountsFailures};
 ghost use Rattle.tmf_cli.specs.Faultless.{IsFaultlessOutput, IsKnown};
 ghost use Rattle.tmf_cli.specs.Headline.{KeepsEveryCommit};
 ghost use Rattle.tmf_lines.specs.Line.{lines_text};
@@ -241,6 +242,12 @@ pub fn tmf<R: Threads + Wait + Sync, S: Source, K: Sink, D: Disk + Send>(
     ensures headline { (script : Script) (candidates : Option (List Candidate)) → are_accepted (map string_bytes words.now) ≡ true → IsScriptOf script (take read_limit (S.rest source.old))
         → IsTrue (S.tells source.old) → DevicesTell D.tells bay → Opens D.held script bay candidates
         → OnceSwitched (λ opened. KeepsEveryCommit D.held D.faults script candidates result.0 opened result.1 (IsTrue (K.tells sink.old)) (K.given sink.old) (K.given sink.new)) bay }
+
+    // The lines of the promise tell of no device more often than it has failed: its count of faults rose in the call by as many, or stands at the end of its type. They are the lines of
+    // failed actions and attempts, of a commit in doubt, of an attempt that was not backed out for a failed call, and of a device that stopped the script.
+    ensures counts { (script : Script) (candidates : Option (List Candidate)) → are_accepted (map string_bytes words.now) ≡ true → IsScriptOf script (take read_limit (S.rest source.old))
+        → IsTrue (S.tells source.old) → DevicesTell D.tells bay → Opens D.held script bay candidates
+        → OnceSwitched (λ opened. CountsFailures D.held D.faults script candidates result.0 opened result.1 (IsTrue (K.tells sink.old)) (K.given sink.old) (K.given sink.new)) bay }
 
     // The law of the output: a script prints, action by action, what the node's state and the list and the map ask for that its devices
     // stand for; and however the call ends, whatever a crash then leaves of the devices stands for a list and a map that the law allows, unless the last

@@ -3,13 +3,16 @@ use Rattle.std.proofs.Common.{rules, ◌≡◌, ◌≤◌, ℕ, IsTrue, false, r
 use Rattle.disk_model.proofs.Devices.{rose-after}
 use Rattle.disk_model.specs.Devices.{FuseRestarts}
 use Rattle.tmf_lines.specs.Words.{are_accepted}
+use Rattle.tmf_script.proofs.Validity.{valid_text}
 use Rattle.tmf_cli.specs.Headline.{KeepsEveryCommit}
 use Rattle.tmf_cli.specs.Status.{code_of}
 use Rattle.tmf_cli.specs.OneOutput.{IsTheOutput}
 use Rattle.tmf_cli.specs.Top.{IsPlayed, IsRead, Tells, TellsBy}
 use Rattle.tmf_cli.proofs.Statuses.{code-done, code-memory, code-most, code-refused, code-sink, code-source, code-stopped, code-usage, none-failed, none-played, none-read, played-from, read-from}
 use Rattle.tmf_cli.specs.Countdown.{IsSwitched}
+use Rattle.tmf_cli.specs.Counts.{CountsFailures}
 use Rattle.tmf_cli.specs.Faultless.{IsFaultlessOutput}
+use Rattle.tmf_cli.proofs.CountedLines.{counts-failures}
 use Rattle.tmf_cli.proofs.Countdowns.{once-any, once-so, same-length, switched-cuts, switched-falls, switches-same}
 use Rattle.tmf_cli.proofs.FaultlessLines.{the_faultless}
 use Rattle.tmf_cli.proofs.OneOutputs.{the_output, whole-falls}
@@ -33,6 +36,19 @@ returns-clause-headline g c = λ form candidates words is source tell opens.
     (g.K.Sink.given c.run_script-status.new.sink)) (sym c.code-2.ensures)
     (promised g.D.Disk.held g.D.Disk.faults form candidates opened c.run_script-status.result.1 (IsTrue (g.K.Sink.tells c.args.sink.now)) (g.K.Sink.given c.args.sink.now) (g.K.Sink.given c.run_script-status.new.sink)
     (opens-switched g.D.Disk.held form c.args.bay opened switched candidates opens).stands s told))
+    (c.run_script-status.ensures.told form candidates is source tell opens)
+
+pub returns-clause-counts : goal.returns-clause-counts
+returns-clause-counts g c = λ form candidates words is source tell opens.
+    let s = c.run_script-status.result.0 in
+    once-so (λ opened. Tells g.D.Disk.held g.D.Disk.faults form candidates c.run_script-status.result.0 opened c.run_script-status.result.1 (IsTrue (g.K.Sink.tells c.args.sink.now)) (g.K.Sink.given c.args.sink.now) (g.K.Sink.given c.run_script-status.new.sink))
+    (λ opened. CountsFailures g.D.Disk.held g.D.Disk.faults form candidates c.code-2.result opened c.run_script-status.result.1 (IsTrue (g.K.Sink.tells c.args.sink.now)) (g.K.Sink.given c.args.sink.now) (g.K.Sink.given c.run_script-status.new.sink)) c.args.bay
+    (λ opened switched told. counts-failures g.D.Disk.held g.D.Disk.faults form candidates c.code-2.result opened c.run_script-status.result.1 (IsTrue (g.K.Sink.tells c.args.sink.now)) (g.K.Sink.given c.args.sink.now)
+    (g.K.Sink.given c.run_script-status.new.sink) (valid_text _ form is)
+    (subst (λ code. KeepsEveryCommit g.D.Disk.held g.D.Disk.faults form candidates code opened c.run_script-status.result.1 (IsTrue (g.K.Sink.tells c.args.sink.now)) (g.K.Sink.given c.args.sink.now)
+    (g.K.Sink.given c.run_script-status.new.sink)) (sym c.code-2.ensures)
+    (promised g.D.Disk.held g.D.Disk.faults form candidates opened c.run_script-status.result.1 (IsTrue (g.K.Sink.tells c.args.sink.now)) (g.K.Sink.given c.args.sink.now) (g.K.Sink.given c.run_script-status.new.sink)
+    (opens-switched g.D.Disk.held form c.args.bay opened switched candidates opens).stands s told)))
     (c.run_script-status.ensures.told form candidates is source tell opens)
 
 pub returns-clause-one_output : goal.returns-clause-one_output
