@@ -11,7 +11,7 @@ load() {
 began=$(load)
 lines=$(mktemp) || exit 1
 trap 'rm -f -- "$lines" figures.md.new' EXIT
-for script in puts script refused trail recovery syncs threads reads allocations; do
+for script in puts script refused trail recovery syncs threads bank reads allocations; do
     bash "$script.sh" >"$lines.said" || { cat "$lines.said"; echo "bench/$script.sh failed" >&2; rm -f -- "$lines.said"; exit 1; }
     sed "s/^| /| \`$script\` | /" "$lines.said" >>"$lines"
     rm -f -- "$lines.said"

@@ -1,7 +1,7 @@
 /* How many syncs a program makes that only appends: so many threads, each with so many transactions, of which each appends one audit record to
-   each of two trails, and then a commit record to the monitor trail. A batch goes out as the trails of tmf have it: its head behind a closed
+   each of two trails, or some to the first, and then a commit record to the monitor trail. A batch goes out as the trails of tmf have it: its head behind a closed
    gate, its records and the next closed gate, a sync, the open gate, a sync. Whoever lands takes all that waits with it. Arguments: threads,
-   transactions of each, a folder. It prints the syncs of all. */
+   transactions of each, a folder, and how many audit records the first trail gets, one where nothing is said. It prints the syncs of all. */
 #include <fcntl.h>
 #include <pthread.h>
 #include <stdio.h>
@@ -21,7 +21,7 @@ struct trail {
 };
 
 static struct trail trails[TRAILS];
-static int transactions;
+static int transactions, first = 1;
 
 static void must(int well) {
     if (!well) {
@@ -64,7 +64,7 @@ static void land(struct trail *to, size_t bytes) {
 
 static void *work(void *nothing) {
     for (int n = 0; n < transactions; n++) {
-        land(&trails[0], AUDIT);
+        land(&trails[0], first * AUDIT);
         land(&trails[1], AUDIT);
         land(&trails[2], COMMIT);
     }
@@ -73,7 +73,9 @@ static void *work(void *nothing) {
 
 int main(int count, char **words) {
     pthread_t threads[THREADS];
-    must(count == 4);
+    must(count == 4 || count == 5);
+    if (count == 5) first = atoi(words[4]);
+    must(1 <= first && first * AUDIT * THREADS <= ROOM);
     int workers = atoi(words[1]);
     must(workers <= THREADS);
     transactions = atoi(words[2]);

@@ -147,15 +147,35 @@ awk -v script="$room/text" -v answer="$room/answer" '
     }'
 check "a bank of 2,000 transfers" "$room/text" "$room/answer" 0 run
 
-echo "usage: tmf run [--dir DIR]" >"$room/usage"
+echo "usage: tmf run [--dir DIR] or tmf bank N [--dir DIR]" >"$room/usage"
 check "no words" "$root/examples/first.tmf" "$room/usage" 1
 check "another word" "$root/examples/first.tmf" "$room/usage" 1 walk
 check "a capital letter" "$root/examples/first.tmf" "$room/usage" 1 Run
 check "another word in front" "$root/examples/first.tmf" "$room/usage" 1 walk run
 check "one word too many" "$root/examples/first.tmf" "$room/usage" 1 run run
-check "words of a later form" "$root/examples/first.tmf" "$room/usage" 1 bank 3
+check "a bank without a number" "$root/examples/first.tmf" "$room/usage" 1 bank
+check "a bank of no transfers" "$root/examples/first.tmf" "$room/usage" 1 bank 0
+check "a bank of 4,096 transfers" "$root/examples/first.tmf" "$room/usage" 1 bank 4096
+check "a number with a zero in front" "$root/examples/first.tmf" "$room/usage" 1 bank 03
+check "two numbers" "$root/examples/first.tmf" "$room/usage" 1 bank 3 4
+check "a bank in an empty folder" "$root/examples/first.tmf" "$room/usage" 1 bank 3 --dir=
 check "no folder" "$root/examples/first.tmf" "$room/usage" 1 run --dir
 check "an empty folder" "$root/examples/first.tmf" "$room/usage" 1 run --dir=
+
+# The transfers of a bank: four workers with so many each, and a first transaction that puts what the accounts hold. The source is left alone.
+banks() {
+    local number=$1
+    shift
+    printf '%s\n' "bank $number" "committed $((4 * (number + 1)))" "other 0" "accounts 40000" "tellers $((4 * number))" >"$room/answer"
+    check "a bank of $number: $*" "$root/examples/no_worker.tmf" "$room/answer" 0 bank "$@"
+}
+banks 1 1
+banks 100 100
+banks 4095 4095
+banks 100 100 --dir "$room/bank"
+banks 30 "--dir=$room/bank" 30
+printf '%s\n' "bank 3" "committed 0" "other 0" "accounts unknown" "tellers unknown" >"$room/answer"
+check "a bank in a folder that can't be made" "$root/examples/first.tmf" "$room/answer" 0 bank 3 --dir /dev/null/node
 
 # Two calls over one folder: the second goes on where the first has ended.
 check "over a folder" "$root/examples/first.tmf" "$root/examples/first.out" 0 run --dir "$room/node"
@@ -339,6 +359,6 @@ check "the call that README.md shows behind it" "$survive/again.tmf" "$room/answ
 if python3 "$root/tests/changed_bytes.py" "$root/crates/tmf_cli/out/tmf_cli"; then passed=$((passed + 1)); else failed=$((failed + 1)); fi
 
 echo "$passed passed, $judged judged, $survived killed and found again, $failed failed"
-# 60 examples, the manual's two scripts, 13 texts that are refused, two of the longest, the bank, eight calls with other words, 28 over folders, two
+# 60 examples, the manual's two scripts, 13 texts that are refused, two of the longest, a bank's script, 13 calls with other words, six banks, 28 over folders, two
 # that README.md shows, and the bytes that are changed.
-[ "$failed" -eq 0 ] && [ "$passed" -eq 117 ] && [ "$judged" -gt 100 ]
+[ "$failed" -eq 0 ] && [ "$passed" -eq 128 ] && [ "$judged" -gt 100 ]

@@ -1,4 +1,6 @@
 pub mod Acts
+pub mod Banks
+pub mod BankWords
 pub mod Bays
 pub mod Countdowns
 pub mod CountedLines

@@ -68,7 +68,7 @@ module _ {D : Type 0} (held : D → Held) (faults : D → ℕ) (config : Config)
     pub knows : Knows held config (node_of state left) now
     pub given_is : sink → given ≡ before ++ lines_text lines
 
-  pub running-begin : (candidates : Option (List Candidate)) (old : List (Fuse D)) (sink : Type 0) (before : List ℕ) (actions : List Action) (state : NodeState) → state ≡ (opening candidates).state → Knows held config (opening candidates) old
+  abbrev pub running-begin : (candidates : Option (List Candidate)) (old : List (Fuse D)) (sink : Type 0) (before : List ℕ) (actions : List Action) (state : NodeState) → state ≡ (opening candidates).state → Knows held config (opening candidates) old
       → Running candidates old sink before [] actions state old before
   running-begin candidates old sink before actions state is knows = record {
     lines = [];
@@ -78,7 +78,7 @@ module _ {D : Type 0} (held : D → Held) (faults : D → ℕ) (config : Config)
     given_is = λ tells. sym (append-nil before);
   }
 
-  pub running-more : (candidates : Option (List Candidate)) (old : List (Fuse D)) (sink : Type 0) (before : List ℕ) (done rest : List Action) (action : Action) (state after : NodeState) (now new : List (Fuse D)) (given given_now : List ℕ)
+  abbrev pub running-more : (candidates : Option (List Candidate)) (old : List (Fuse D)) (sink : Type 0) (before : List ℕ) (done rest : List Action) (action : Action) (state after : NodeState) (now new : List (Fuse D)) (given given_now : List ℕ)
       → (running : Running candidates old sink before done (action ∷ rest) state now given)
       → HasPlayed held faults config action (node_of state running.left) now after new sink given given_now → KeepsCounts faults (kill_of action ≡ None) now new
       → Running candidates old sink before (done ++ action ∷ []) rest after new given_now

@@ -71,7 +71,7 @@ module _ {D : Type 0} (held : D → Held) (faults : D → ℕ) (config : Config)
       let from = each found.0 found.1 in
       (from.0, found.0, _, _, from.1, found.2, from.2)
 
-  keeps-so : (most : ℕ) (actions : List Action) (before after : Node) (lines : List Line) (new : List (Fuse D)) (ends : EndsByScript config most actions before after lines) → MayStand held config new after.candidates → after.state.formatted ≡ true
+  pub keeps-so : (most : ℕ) (actions : List Action) (before after : Node) (lines : List Line) (new : List (Fuse D)) (ends : EndsByScript config most actions before after lines) → MayStand held config new after.candidates → after.state.formatted ≡ true
       → (images : ℕ → Held) → AreImages held new images → StandBy most config ends.runs (since before.candidates lines) images
   keeps-so most actions before after lines new ends stands formatted images left =
       subst (λ from. StandBy most config ends.runs from images) (sym (since-origin config most actions before after lines ends formatted))
@@ -97,11 +97,11 @@ module _ {D : Type 0} (held : D → Held) (faults : D → ℕ) (script : Script)
   abbrev IsPromised : ℕ → Type 0
   IsPromised code = KeepsEveryCommit held faults script candidates code old new sink before after
 
-  knows-opening : KnowsList (opening candidates).state candidates
+  pub knows-opening : KnowsList (opening candidates).state candidates
   knows-opening = down-knows (opening candidates).state candidates refl
 
   -- a refused run in which the script ended has done nothing
-  refused-so : MayStand held script.config old candidates → (ends : EndsIn held faults script.config (opening candidates) script.actions old new)
+  pub refused-so : MayStand held script.config old candidates → (ends : EndsIn held faults script.config (opening candidates) script.actions old new)
       → IsRefusedRun held script.config ends.reaches.action ends.reaches.middle ends.reaches.between → LeavesAsBefore held faults script candidates old new ends
   refused-so stands ends refused =
       let at = ends.reaches in
@@ -118,7 +118,7 @@ module _ {D : Type 0} (held : D → Held) (faults : D → ℕ) (script : Script)
       }
 
   -- all actions have their lines
-  promised-whole : MayStand held script.config old candidates → EndsWhole held faults script.config (opening candidates) script.actions old new sink before after → IsPromised 0
+  abbrev pub promised-whole : MayStand held script.config old candidates → EndsWhole held faults script.config (opening candidates) script.actions old new sink before after → IsPromised 0
   promised-whole stands whole =
       let ends = call_headline held faults script.config script.actions (opening candidates) whole.left old new whole.lines knows-opening whole.told in
       record {

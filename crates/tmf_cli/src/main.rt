@@ -1,8 +1,9 @@
 //! The program `tmf`: `tmf run` carries out a script, which it reads from the standard input, over
-//! devices in memory, or in the folder that `--dir` names.
+//! devices in memory, or in the folder that `--dir` names; `tmf bank N` carries out the transfers of a bank.
 #![tactic(auto)]
 
 mod act;
+mod bank;
 mod countdown;
 mod device;
 mod laws;

@@ -1,5 +1,6 @@
 //! What no clause says: what whole scripts print where calls of the source, the sink or a device fail, the bytes that they leave on the
 //! devices, and what later calls find there. Scripts over empty devices of which none fails stand under examples/.
+mod bank;
 mod commits;
 mod cut;
 mod lost;

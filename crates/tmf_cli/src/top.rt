@@ -1,5 +1,5 @@
 //! The top call: all that the program does.
-ghost use Rattle.std.specs.Prelude.{◌≡◌, ◌≢◌, ◌⊎◌, ◌≤◌, ◌++◌, ◌∷◌, [], ℕ, List, Option, None, length, map, take, drop, true, false, string_bytes, IsTrue, IfOk, IfErr, IfSome};
+ghost use Rattle.std.specs.Prelude.{◌≡◌, ◌≢◌, ◌⊎◌, ◌≤◌, ◌++◌, ◌∷◌, [], ℕ, List, Option, Some, None, length, map, take, drop, true, false, string_bytes, IsTrue, IfOk, IfErr, IfSome};
 ghost use Rattle.disk_model.specs.Held.{Rose};
 ghost use Rattle.run_outcomes.specs.Devices.{devices};
 ghost use Rattle.tmf_edges.specs.Moves.{AppendsPart, DropsPart};
@@ -7,6 +7,7 @@ ghost use Rattle.tmf_model.specs.Script.{IsValidScript};
 ghost use Rattle.tmf_model.specs.declared.script.Script.{Script};
 ghost use Rattle.tmf_cli.specs.declared.status.Status.{Status};
 ghost use Rattle.tmf_cli.specs.ActionGiven.{KeepsSink};
+ghost use Rattle.tmf_cli.specs.Bank.{AnswersBank};
 ghost use Rattle.tmf_cli.specs.BetweenActions.{LeavesBay, OthersRestarted};
 ghost use Rattle.tmf_cli.specs.Call.{AnswersText, AnswersUsage, HasStatus, KeepsBay, KeepsOn};
 ghost use Rattle.tmf_cli.specs.Countdown.{IsOff, NoneCut, NoneKilled, OnceSwitched};
@@ -19,9 +20,10 @@ ghost use Rattle.tmf_lines.specs.Script.{IsRefusalOf, IsScriptOf};
 ghost use Rattle.tmf_cli.specs.OneOutput.{FormatsFirst, IsTheOutput, NoneRose};
 ghost use Rattle.tmf_cli.specs.OutputLaw.{HasFailed, Candidate};
 ghost use Rattle.tmf_cli.specs.Top.{read_limit, stop_lines, IsStatusCaused, IsUnreadCaused, IsGiven, EndsStopped, SaysWhy, TellsRefusal, IsScript, Opens, Tells, TellsBy};
-ghost use Rattle.tmf_lines.specs.Words.{are_accepted};
+ghost use Rattle.tmf_lines.specs.Words.{are_accepted, bank_of, is_run};
 ghost use Rattle.disk_model.specs.Devices.{DevicesTell, FuseRestarts};
 
+use crate::bank::run_bank;
 use crate::means::Means;
 use crate::play::play;
 use crate::status::{ScriptEnd, Status};
@@ -32,7 +34,8 @@ use std::sync::Wait;
 use std::thread::Threads;
 use tmf_edges::{ReadFault, Sink, Source, read_to_limit};
 use tmf_lines::{
-    DeviceTrouble, GiveFault, Line, ScriptRefusal, accepts, device_name, give_lines, read_script,
+    DeviceTrouble, GiveFault, Line, ScriptRefusal, accepts, bank_of, device_name, give_lines,
+    read_script,
 };
 use tmf_model::{Config, Script};
 
@@ -218,12 +221,13 @@ fn run_script<R: Threads + Wait + Sync, S: Source, K: Sink, D: Disk + Send>(
 }
 
 /// Devices on which no call was made are the same, tell their state as before, and have not failed.
-fn left_alone<D: Disk>(bay: &Bay<D>)
+pub fn left_alone<D: Disk>(bay: &Bay<D>)
     ensures { KeepsBay D.Disk bay.now bay.now }
 {}
 
 /// Reads the script from the source and carries out its actions on the devices, whose lines go to the
-/// sink. It answers the program's exit status and the devices.
+/// sink; where the words ask for a bank run, the script is the bank's, and the sink gets five lines of
+/// what its own come to. It answers the program's exit status and the devices.
 pub fn tmf<R: Threads + Wait + Sync, S: Source, K: Sink, D: Disk + Send>(
     rt: &R,
     alloc: Global,
@@ -239,13 +243,13 @@ pub fn tmf<R: Threads + Wait + Sync, S: Source, K: Sink, D: Disk + Send>(
     // commit that the lines acknowledge since, each at its place and whole, for those alone besides that they leave in doubt, and, where the device of the monitor trail has failed in a single run, at most one more that was in flight, and for nothing of any other transaction;
     // unless the last format that was begun was not whole, or nothing was known of the devices and the script has formatted none. Its premises: source and devices tell their state, and
     // the devices that are handed in may stand for these lists and maps.
-    ensures headline { (script : Script) (candidates : Option (List Candidate)) → are_accepted (map string_bytes words.now) ≡ true → IsScriptOf script (take read_limit (S.rest source.old))
+    ensures headline { (script : Script) (candidates : Option (List Candidate)) → is_run (map string_bytes words.now) ≡ true → IsScriptOf script (take read_limit (S.rest source.old))
         → IsTrue (S.tells source.old) → DevicesTell D.tells bay → Opens D.held script bay candidates
         → OnceSwitched (λ opened. KeepsEveryCommit D.held D.faults script candidates result.0 opened result.1 (IsTrue (K.tells sink.old)) (K.given sink.old) (K.given sink.new)) bay }
 
     // The lines of the promise tell of no device more often than it has failed: its count of faults rose in the call by as many, or stands at the end of its type. They are the lines of
     // failed actions and attempts, of a commit in doubt, of an attempt that was not backed out for a failed call, and of a device that stopped the script.
-    ensures counts { (script : Script) (candidates : Option (List Candidate)) → are_accepted (map string_bytes words.now) ≡ true → IsScriptOf script (take read_limit (S.rest source.old))
+    ensures counts { (script : Script) (candidates : Option (List Candidate)) → is_run (map string_bytes words.now) ≡ true → IsScriptOf script (take read_limit (S.rest source.old))
         → IsTrue (S.tells source.old) → DevicesTell D.tells bay → Opens D.held script bay candidates
         → OnceSwitched (λ opened. CountsFailures D.held D.faults script candidates result.0 opened result.1 (IsTrue (K.tells sink.old)) (K.given sink.old) (K.given sink.new)) bay }
 
@@ -253,31 +257,39 @@ pub fn tmf<R: Threads + Wait + Sync, S: Source, K: Sink, D: Disk + Send>(
     // stand for; and however the call ends, whatever a crash then leaves of the devices stands for a list and a map that the law allows, unless the last
     // format that was begun was not whole. A run that ends the script leaves an item in flight only where the device of the monitor trail has failed in it. The law is told of whatever the devices that are handed in may stand for; of others `candidates` is none, and what they
     // stand for is known from the first whole format on.
-    ensures told { (script : Script) (candidates : Option (List Candidate)) → are_accepted (map string_bytes words.now) ≡ true → IsScriptOf script (take read_limit (S.rest source.old))
+    ensures told { (script : Script) (candidates : Option (List Candidate)) → is_run (map string_bytes words.now) ≡ true → IsScriptOf script (take read_limit (S.rest source.old))
         → IsTrue (S.tells source.old) → DevicesTell D.tells bay → Opens D.held script bay candidates
         → OnceSwitched (λ opened. TellsBy D.held D.faults script candidates result.0 opened result.1 (IsTrue (K.tells sink.old)) (K.given sink.old) (K.given sink.new)) bay }
 
     // Of a script that formats first, and whose runs are single, where no device fails and the status is 0, the output is the one that the script determines, whatever devices were handed in.
-    ensures one_output { (script : Script) → are_accepted (map string_bytes words.now) ≡ true → IsScriptOf script (take read_limit (S.rest source.old)) → IsTrue (S.tells source.old) → IsTrue (K.tells sink.old)
+    ensures one_output { (script : Script) → is_run (map string_bytes words.now) ≡ true → IsScriptOf script (take read_limit (S.rest source.old)) → IsTrue (S.tells source.old) → IsTrue (K.tells sink.old)
         → DevicesTell D.tells bay → FormatsFirst script → AreSingle script.config script.actions → NoneRose D.faults bay result.1 → result.0 ≡ 0 → IsTheOutput D.held D.faults script (K.given sink.old) (K.given sink.new) }
 
     // Completeness: where no device fails and the status is 0, and it is known what the devices that are handed in may stand for, or the script formats first, none of the lines that were
     // given tells of a fault: each action was carried out, or refused for what the node and its devices are, and each attempt of a run ended in a way that has no fault for its cause.
-    ensures faultless { (script : Script) (candidates : Option (List Candidate)) → are_accepted (map string_bytes words.now) ≡ true → IsScriptOf script (take read_limit (S.rest source.old)) → IsTrue (S.tells source.old)
+    ensures faultless { (script : Script) (candidates : Option (List Candidate)) → is_run (map string_bytes words.now) ≡ true → IsScriptOf script (take read_limit (S.rest source.old)) → IsTrue (S.tells source.old)
         → IsTrue (K.tells sink.old) → DevicesTell D.tells bay → Opens D.held script bay candidates → IsKnown candidates ⊎ FormatsFirst script → NoneRose D.faults bay result.1 → result.0 ≡ 0
         → IsFaultlessOutput (K.given sink.old) (K.given sink.new) }
 
-    // A script is carried out, any other text is refused; and each status has its cause and its lines. Status 2 is want of memory, or a run that was refused since a disc's
+    // Of words that ask for no bank run: a script is carried out, any other text is refused; and each status has its cause and its lines. Status 2 is want of memory, or a run that was refused since a disc's
     // positions are spent or a file's records have no room, as the law of the output says of the run in which the script ended.
-    ensures text { IsTrue (S.tells source.old) → AnswersText S.Source K.Sink D.Disk (are_accepted (map string_bytes words.now)) result.0 source.old source.new sink.old sink.new bay result.1 }
-    ensures status { HasStatus S.Source K.Sink (are_accepted (map string_bytes words.now)) result.0 source.old source.new sink.old sink.new bay result.1 }
+    ensures text { bank_of (map string_bytes words.now) ≡ None → IsTrue (S.tells source.old) → AnswersText S.Source K.Sink D.Disk (are_accepted (map string_bytes words.now)) result.0 source.old source.new sink.old sink.new bay result.1 }
+    ensures status { bank_of (map string_bytes words.now) ≡ None → HasStatus S.Source K.Sink (are_accepted (map string_bytes words.now)) result.0 source.old source.new sink.old sink.new bay result.1 }
 
-    ensures keeps { KeepsOn S.Source K.Sink D.Disk result.0 source.old source.new sink.old sink.new bay result.1 }
+    ensures keeps { bank_of (map string_bytes words.now) ≡ None → KeepsOn S.Source K.Sink D.Disk result.0 source.old source.new sink.old sink.new bay result.1 }
+
+    // Of words that ask for one: the promise and the law hold of the bank's script, and the sink is given what its lines come to. The source is left alone.
+    ensures bank { (transfers : ℕ) → bank_of (map string_bytes words.now) ≡ Some transfers → (source.new ≡ source.old) × AnswersBank K.Sink D.Disk transfers result.0 sink.old sink.new bay result.1 }
 {
     if !accepts(words) {
         left_alone(&bay);
         return (tell(alloc, sink, Line::Usage, Status::Usage).code(), bay);
     }
-    let (status, bay) = run_script(Means { rt, alloc }, source, sink, bay);
+    let means = Means { rt, alloc };
+    if let Some(transfers) = bank_of(words) {
+        let (status, bay) = run_bank(means, transfers, sink, bay);
+        return (status.code(), bay);
+    }
+    let (status, bay) = run_script(means, source, sink, bay);
     (status.code(), bay)
 }

@@ -12,6 +12,7 @@ use Rattle.tmf_cli.proofs.Statuses.{code-done, code-memory, code-most, code-refu
 use Rattle.tmf_cli.specs.Countdown.{IsSwitched}
 use Rattle.tmf_cli.specs.Counts.{CountsFailures}
 use Rattle.tmf_cli.specs.Faultless.{IsFaultlessOutput}
+use Rattle.tmf_cli.proofs.BankWords.{accepted-bank, other-bank, run-no-bank}
 use Rattle.tmf_cli.proofs.CountedLines.{counts-failures}
 use Rattle.tmf_cli.proofs.Countdowns.{once-any, once-so, same-length, switched-cuts, switched-falls, switches-same}
 use Rattle.tmf_cli.proofs.FaultlessLines.{the_faultless}
@@ -75,7 +76,7 @@ returns-clause-faultless g c = λ form candidates words is source sink tell open
     (c.run_script-status.ensures.told form candidates is source tell opens)
 
 pub returns-clause-text : goal.returns-clause-text
-returns-clause-text g c = λ source.
+returns-clause-text g c = λ none source.
     let s = c.run_script-status.result.0 in
     let ran = c.run_script-status.ensures in
     let code : (n : ℕ) → code_of s ≡ n → c.code-2.result ≡ n = λ n e. c.code-2.ensures ∙ e in
@@ -108,7 +109,7 @@ returns-clause-text g c = λ source.
     }
 
 pub returns-clause-status : goal.returns-clause-status
-returns-clause-status g c =
+returns-clause-status g c = λ none.
     let s = c.run_script-status.result.0 in
     let ran = c.run_script-status.ensures in
     record {
@@ -124,7 +125,7 @@ returns-clause-status g c =
     }
 
 pub returns-clause-keeps : goal.returns-clause-keeps
-returns-clause-keeps g c =
+returns-clause-keeps g c = λ none.
     let ran = c.run_script-status.ensures in
     record {
       source_tells = ran.source_tells;
@@ -139,7 +140,7 @@ returns-clause-keeps g c =
     }
 
 pub returns-then-not-accepts-clause-keeps : goal.returns-then-not-accepts-clause-keeps
-returns-then-not-accepts-clause-keeps g c = record {
+returns-then-not-accepts-clause-keeps g c = λ none. record {
   source_tells = refl;
   source_later = search rules;
   taken = λ source. record {
@@ -152,7 +153,7 @@ returns-then-not-accepts-clause-keeps g c = record {
 }
 
 pub returns-then-not-accepts-clause-text : goal.returns-then-not-accepts-clause-text
-returns-then-not-accepts-clause-text g c = λ source.
+returns-then-not-accepts-clause-text g c = λ none source.
     let s = c.tell.result in
     let no : are_accepted (map string_bytes c.args.words.now) ≡ false = search rules in
     record {
@@ -173,3 +174,30 @@ returns-then-not-accepts-clause-text g c = λ source.
         devices = refl;
       };
     }
+
+pub returns-then-not-accepts-clause-bank : goal.returns-then-not-accepts-clause-bank
+returns-then-not-accepts-clause-bank g c = λ transfers is. absurd (accepted-bank (map string_bytes c.args.words.now) transfers is (search rules))
+
+pub returns-in-Some-clause-headline : goal.returns-in-Some-clause-headline
+returns-in-Some-clause-headline g c = λ form candidates words. absurd (run-no-bank (map string_bytes c.args.words.now) c.in-Some.transfers words (sym c.bank_of.ensures.number ∙ c.in-Some.is))
+
+pub returns-in-Some-clause-counts : goal.returns-in-Some-clause-counts
+returns-in-Some-clause-counts g c = λ form candidates words. absurd (run-no-bank (map string_bytes c.args.words.now) c.in-Some.transfers words (sym c.bank_of.ensures.number ∙ c.in-Some.is))
+
+pub returns-in-Some-clause-told : goal.returns-in-Some-clause-told
+returns-in-Some-clause-told g c = λ form candidates words. absurd (run-no-bank (map string_bytes c.args.words.now) c.in-Some.transfers words (sym c.bank_of.ensures.number ∙ c.in-Some.is))
+
+pub returns-in-Some-clause-one_output : goal.returns-in-Some-clause-one_output
+returns-in-Some-clause-one_output g c = λ form words. absurd (run-no-bank (map string_bytes c.args.words.now) c.in-Some.transfers words (sym c.bank_of.ensures.number ∙ c.in-Some.is))
+
+pub returns-in-Some-clause-faultless : goal.returns-in-Some-clause-faultless
+returns-in-Some-clause-faultless g c = λ form candidates words. absurd (run-no-bank (map string_bytes c.args.words.now) c.in-Some.transfers words (sym c.bank_of.ensures.number ∙ c.in-Some.is))
+
+pub returns-in-Some-clause-text : goal.returns-in-Some-clause-text
+returns-in-Some-clause-text g c = λ none. absurd (other-bank (map string_bytes c.args.words.now) c.in-Some.transfers none (sym c.bank_of.ensures.number ∙ c.in-Some.is))
+
+pub returns-in-Some-clause-status : goal.returns-in-Some-clause-status
+returns-in-Some-clause-status g c = λ none. absurd (other-bank (map string_bytes c.args.words.now) c.in-Some.transfers none (sym c.bank_of.ensures.number ∙ c.in-Some.is))
+
+pub returns-in-Some-clause-keeps : goal.returns-in-Some-clause-keeps
+returns-in-Some-clause-keeps g c = λ none. absurd (other-bank (map string_bytes c.args.words.now) c.in-Some.transfers none (sym c.bank_of.ensures.number ∙ c.in-Some.is))

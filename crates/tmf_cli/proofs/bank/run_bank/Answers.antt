@@ -1,0 +1,100 @@
+use Rattle.std.specs.Prelude.{IfErr, OnOk}
+use Rattle.std.proofs.Common.{rules, ◌≡◌, ◌⊎◌, ◌++◌, [], IsTrue, refl, sym, ap, subst, ◌∙◌, inl, inr, ⊎_elim, arith}
+use Rattle.disk_model.specs.Devices.{FuseRestarts}
+use Rattle.tmf_edges.specs.Moves.{AppendsPart}
+use Rattle.tmf_lines.specs.Summary.{summary_text}
+use Rattle.tmf_script.specs.Bank.{bank_script}
+use Rattle.tmf_cli.specs.declared.status.Status.TheVariants as status
+use Rattle.tmf_cli.specs.Bank.{CollectsAll, GivesSummary, TellsBank}
+use Rattle.tmf_cli.specs.Countdown.{IsSwitched, OnceSwitched}
+use Rattle.tmf_cli.specs.Ending.{opening}
+use Rattle.tmf_cli.specs.Status.{code_of}
+use Rattle.tmf_cli.specs.Top.{IsStatusCaused, Opens, Tells}
+use Rattle.tmf_cli.proofs.Banks.{bank-ended, bank-keeps, bank-leaves, bank-off, bank-others, bank-summed, bank-uncut, gives-none, gives-status, none-summed, summed-other, summed-status}
+use Rattle.tmf_cli.proofs.Countdowns.{once-so, same-length, switched-cuts, switches-same}
+use Rattle.tmf_cli.proofs.Openings.{opens-switched}
+use Rattle.tmf_cli.proofs.Playing.{others-none}
+use Rattle.tmf_cli.proofs.Statuses.{code-sink}
+use Rattle.tmf_cli.proofs.bank.run_bank.Goals as goal
+
+pub returns-in_default : goal.returns-in_default
+returns-in_default g c = record {
+  status = inr (inl refl);
+  told = λ candidates tell opens.
+      inl (bank-ended g.D.Disk.held g.D.Disk.faults c.args.transfers candidates c.args.bay c.args.bay (IsTrue (g.K.Sink.tells c.args.sink.now)) (g.K.Sink.given c.args.sink.now) (g.K.Sink.given c.args.sink.now) status.NoMemory (inl refl) opens.stands
+      (inl (refl, λ no. absurd no)) (λ t. refl));
+  given = λ t. ([], gives-none c.args.transfers status.NoMemory (g.K.Sink.given c.args.sink.now) (g.K.Sink.given c.args.sink.now) [] (inl refl) refl);
+  sink_failed = λ e. absurd (omega (arith, e));
+  keeps_sink = record { tells = refl; later = search rules };
+  devices = c.left_alone.ensures;
+  others = inl (others-none (bank_script c.args.transfers).config (FuseRestarts g.D.Disk) c.args.bay);
+  uncut = switched-cuts c.args.bay c.args.bay (switches-same c.args.bay);
+  off = inl refl;
+  summed_off = λ summed. absurd (none-summed status.NoMemory (inl refl) summed);
+}
+
+pub returns-in-Ok-carried : goal.returns-in-Ok-carried
+returns-in-Ok-carried g c =
+    let transfers = c.args.transfers in
+    let same = c.in-Ok.ensures.script in
+    let carried = c.carry_out_bank-carried in
+    let new = c.carry_out_bank-carried.result.1 in
+    let lines = c.carry_out_bank-carried.new.lines.items in
+    let before = g.K.Sink.given c.args.sink.now in
+    let after = g.K.Sink.given c.sum_up.new.sink in
+    let how = c.sum_up.result in
+    let gives : IsTrue (g.K.Sink.tells c.args.sink.now) → GivesSummary transfers (code_of how) before after lines =
+    (λ ts. gives-status transfers how before after lines (λ done. subst (λ ls. after ≡ before ++ summary_text transfers ls) c.deref.ensures.value (c.sum_up.ensures.given ts done))
+    (λ sunk. subst (λ ls. AppendsPart before after (summary_text transfers ls)) c.deref.ensures.value (c.sum_up.ensures.part ts sunk)) (c.sum_up.ensures.none ts) c.sum_up.ensures.status) in
+    let met = g.met.D.Disk g.world.𝓛 g.world.𝓜 g.world.𝓡 ((λ s x. x), (λ x. x), (λ x. x), λ x. x) in
+    let leaves = bank-leaves g.D.Disk met.same_on met.same_itself transfers c.in-Ok.script c.args.bay new same carried.ensures.keeps in
+    record {
+      status = summed-status how c.sum_up.ensures.status;
+      told = λ candidates tell opens.
+          once-so (λ opened. CollectsAll g.D.Disk.held g.D.Disk.faults (bank_script transfers).config (opening candidates) (bank_script transfers).actions opened lines new)
+          (λ opened. TellsBank g.D.Disk.held g.D.Disk.faults transfers candidates (code_of how) opened new (IsTrue (g.K.Sink.tells c.args.sink.now)) before after) c.args.bay
+          (λ opened switched all. bank-summed g.D.Disk.held g.D.Disk.faults transfers candidates opened new (IsTrue (g.K.Sink.tells c.args.sink.now)) before after lines (code_of how) (summed-other how c.sum_up.ensures.status)
+          (opens-switched g.D.Disk.held (bank_script transfers) c.args.bay opened switched candidates opens).stands (sym (same-length IsSwitched c.args.bay opened switched) ∙ carried.ensures.all) all gives)
+          (subst (λ s. OnceSwitched (λ opened. CollectsAll g.D.Disk.held g.D.Disk.faults s.config (opening candidates) s.actions opened lines new) c.args.bay) same
+          (subst (λ r. OnOk r (OnceSwitched (λ opened. CollectsAll g.D.Disk.held g.D.Disk.faults c.in-Ok.script.config (opening candidates) c.in-Ok.script.actions opened lines new) c.args.bay)) c.in-Ok-carried.is
+          (carried.ensures.told candidates tell (subst (λ s. Opens g.D.Disk.held s c.args.bay candidates) (sym same) opens))));
+      given = λ ts. (lines, gives ts);
+      sink_failed = λ four. subst (λ s. IsStatusCaused s (g.K.Sink.faults c.args.sink.now) (g.K.Sink.faults c.sum_up.new.sink)) (code-sink how four) c.sum_up.ensures.cause;
+      keeps_sink = c.sum_up.ensures.keeps;
+      devices = bank-keeps g.D.Disk met.same_on met.same_itself transfers c.in-Ok.script c.args.bay new leaves;
+      others = bank-others g.D.Disk met.same_on met.same_itself transfers c.in-Ok.script c.args.bay new leaves;
+      uncut = bank-uncut g.D.Disk met.same_on met.same_itself transfers c.in-Ok.script c.args.bay new leaves;
+      off = inr (bank-off g.D.Disk met.same_on met.same_itself transfers c.in-Ok.script c.args.bay new leaves);
+      summed_off = λ summed. bank-off g.D.Disk met.same_on met.same_itself transfers c.in-Ok.script c.args.bay new leaves;
+    }
+
+pub returns : goal.returns
+returns g c =
+    let transfers = c.args.transfers in
+    let same = c.in-Ok.ensures.script in
+    let carried = c.carry_out_bank-carried in
+    let new = c.carry_out_bank-carried.result.1 in
+    let how = c.in-Err.status in
+    let two = subst (λ r. IfErr r (λ s. (s ≡ status.NoMemory) ⊎ (s ≡ status.Stopped))) c.in-Err.is carried.ensures.how in
+    let sink = g.K.Sink.given c.args.sink.now in
+    let met = g.met.D.Disk g.world.𝓛 g.world.𝓜 g.world.𝓡 ((λ s x. x), (λ x. x), (λ x. x), λ x. x) in
+    let leaves = bank-leaves g.D.Disk met.same_on met.same_itself transfers c.in-Ok.script c.args.bay new same carried.ensures.keeps in
+    record {
+      status = inr (⊎_elim (λ memory. inl (ap code_of memory)) (λ stopped. inr (ap code_of stopped)) two);
+      told = λ candidates tell opens.
+          once-so (λ opened. Tells g.D.Disk.held g.D.Disk.faults (bank_script transfers) candidates how opened new ⊥ [] [])
+          (λ opened. TellsBank g.D.Disk.held g.D.Disk.faults transfers candidates (code_of how) opened new (IsTrue (g.K.Sink.tells c.args.sink.now)) sink sink) c.args.bay
+          (λ opened switched tells. bank-ended g.D.Disk.held g.D.Disk.faults transfers candidates opened new (IsTrue (g.K.Sink.tells c.args.sink.now)) sink sink how two
+          (opens-switched g.D.Disk.held (bank_script transfers) c.args.bay opened switched candidates opens).stands tells (λ t. refl))
+          (subst (λ s. OnceSwitched (λ opened. Tells g.D.Disk.held g.D.Disk.faults s candidates how opened new ⊥ [] []) c.args.bay) same
+          (subst (λ r. IfErr r (λ s. OnceSwitched (λ opened. Tells g.D.Disk.held g.D.Disk.faults c.in-Ok.script candidates s opened new ⊥ [] []) c.args.bay)) c.in-Err.is
+          (carried.ensures.ended candidates tell (subst (λ s. Opens g.D.Disk.held s c.args.bay candidates) (sym same) opens))));
+      given = λ ts. ([], gives-none transfers how sink sink [] two refl);
+      sink_failed = λ four. absurd (none-summed how two (inr four));
+      keeps_sink = record { tells = refl; later = search rules };
+      devices = bank-keeps g.D.Disk met.same_on met.same_itself transfers c.in-Ok.script c.args.bay new leaves;
+      others = bank-others g.D.Disk met.same_on met.same_itself transfers c.in-Ok.script c.args.bay new leaves;
+      uncut = bank-uncut g.D.Disk met.same_on met.same_itself transfers c.in-Ok.script c.args.bay new leaves;
+      off = inr (bank-off g.D.Disk met.same_on met.same_itself transfers c.in-Ok.script c.args.bay new leaves);
+      summed_off = λ summed. absurd (none-summed how two summed);
+    }
