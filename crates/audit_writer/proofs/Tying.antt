@@ -246,17 +246,23 @@ pub end_then : (u v w : QueueEnd) → IsSameEnd u v → IsSameEnd v w → IsSame
 end_then u v w p q = record { queue = q.queue ∙ p.queue; told = q.told ∙ p.told }
 
 pub turned_then : (a b c d : ℕ) (u v w : QueueEnd) → HasTurned a b u v → HasTurned c d v w → HasTurned (a + c) (b + d) u w
-turned_then a b c d u v w p q = λ low.
-    let last = q low in
-    let turns = last.0 in
-    let misses = last.1 in
-    let first = p (omega (arith, low, turns)) in
-    let turns_first = first.0 in
-    let misses_first = first.1 in
-    (omega (arith, turns, turns_first), omega (arith, misses, misses_first))
+turned_then a b c d u v w p q = (
+  omega (arith, p.0, q.0),
+  λ low.
+      let last = q.1 low in
+      let turns = last.0 in
+      let misses = last.1 in
+      let first = p.1 (omega (arith, low, turns)) in
+      let turns_first = first.0 in
+      let misses_first = first.1 in
+      (omega (arith, turns, turns_first), omega (arith, misses, misses_first)),
+)
 
 pub turned_same : (v w : QueueEnd) → w ≡ v → HasTurned 0 0 v w
-turned_same v w e = λ low. (let turns = ap (λ (x : QueueEnd). x.turns) e in let misses = ap (λ (x : QueueEnd). x.misses) e in (omega (arith, turns), omega (arith, misses)))
+turned_same v w e =
+    let turns = ap (λ (x : QueueEnd). x.turns) e in
+    let misses = ap (λ (x : QueueEnd). x.misses) e in
+    (omega (arith, turns), λ low. (omega (arith, turns), omega (arith, misses)))
 
 pub missed_same : (u v w : QueueEnd) → w ≡ v → HasMissed u v → HasMissed u w
 missed_same u v w e h = subst (λ (x : QueueEnd). HasMissed u x) (sym e) h
@@ -268,12 +274,12 @@ turned_on n false u v w x is same p q = cc (is)
 
 -- turns that found parcels, and the last one, which found none
 pub missed_after : (n : ℕ) (r : Bool) (u v w x : QueueEnd) → r ≡ false → x ≡ w → HasTurned n 0 u v → MatchBool r (HasTurned 1 0 v w) (HasTurned 1 1 v w) → HasMissed u x
-missed_after n false u v w x is same p q = missed_same u w x same (λ low. (turned_then n 0 1 1 u v w p q low).1)
+missed_after n false u v w x is same p q = missed_same u w x same (λ low. ((turned_then n 0 1 1 u v w p q).1 low).1)
 missed_after n true u v w x is same p q = cc (is)
 
 -- more turns than 64 bits count
 pub turned_out : (n : ℕ) (v w : QueueEnd) → 2 ^ 64 - 1 ≤ n → HasTurned n 0 v w → HasMissed v w
-turned_out n v w many p = λ low. (let is = p low in let turns = is.0 in absurd (omega (arith, low, turns, many)))
+turned_out n v w many p = λ low. (let is = p.1 low in let turns = is.0 in absurd (omega (arith, low, turns, many)))
 
 pub missed_from : (u v w : QueueEnd) → v.misses ≡ u.misses → HasMissed v w → HasMissed u w
 missed_from u v w same h = λ low. (let misses = h low in omega (arith, same, misses))

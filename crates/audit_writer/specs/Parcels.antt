@@ -217,9 +217,9 @@ with_pass pass e = record e { pass = pass }
 abbrev pub has_heard : ℕ → ℕ → QueueEnd → QueueEnd
 has_heard disc to e = with_pass (with_told e.pass (told_of (one_disc disc to))) e
 
--- so many turns, and so many of them found none, as long as 64 bits count the turns
+-- so many turns, and so many of them found none, as long as 64 bits count the turns; no more turns than that in any case
 abbrev pub HasTurned : ℕ → ℕ → QueueEnd → QueueEnd → Type 0
-HasTurned turns misses v w = w.turns < 2 ^ 64 - 1 → (w.turns ≡ v.turns + turns) × (w.misses ≡ v.misses + misses)
+HasTurned turns misses v w = (w.turns ≤ v.turns + turns) × (w.turns < 2 ^ 64 - 1 → (w.turns ≡ v.turns + turns) × (w.misses ≡ v.misses + misses))
 
 -- just one pop found none, as long as 64 bits count the turns
 abbrev pub HasMissed : QueueEnd → QueueEnd → Type 0

@@ -28,10 +28,10 @@ use Rattle.disc_process.specs.Damage.{WasRight}
 use Rattle.disc_process.specs.Disc.{AreKept, DiscView, FindsIn, event_of}
 use Rattle.disc_process.specs.Draw.{AreDraws, HasMadeRoom, HasSoughtRoom, IsDrawRefusal, SameWork}
 use Rattle.disk_model.specs.declared.disk.Disk as disk
-use Rattle.disc_process.specs.Write.{HasBadBlock, HasCarriedOut, HasDone, IsAnswered, HasBlockAfter, IsCrowded, IsDone, IsEnlisted, IsIdle, IsKeyAnswered, IsLockAnswered, IsRefused, IsUnread, MayBegin, SeeksHome, block_after}
+use Rattle.disc_process.specs.Write.{HasBadBlock, HasCarriedOut, HasDone, IsAnswered, HasBlockAfter, IsCrowded, IsDone, IsEnlisted, IsIdle, IsKeyAnswered, IsLockAnswered, IsRefused, IsUnread, MakesHome, MayBegin, SeeksHome, block_after}
 use Rattle.disc_process.proofs.Bringing.{others_brought, was_brought}
 use Rattle.disc_process.proofs.Drawn.{draws_then, refusal_more}
-use Rattle.disc_process.proofs.Rooms.{room_draws, sought_before, sought_made}
+use Rattle.disc_process.proofs.Rooms.{room_before, room_behind, room_draws, sought_before, sought_made}
 
 pub event_same : (s t : DiscPart) (x : Transid) (step : Step) (what : Found) → SameWork s t → event_of t x step what ≡ event_of s x step what
 event_same s t x step (found.Change before after) w =
@@ -132,6 +132,9 @@ module _ {D : Type 0} (kind : disk.Ghosts D) (old mid new : DiscView D) (t_old t
     still_sought : own_events new.seat ≡ own_events mid.seat → SeeksHome old new t_old step
     still_sought same = sought_made (Attempt t_old.tx) old.blocks step.file (home_block old.part.config step.file step.key) old.seat mid.seat new.seat drawn same
 
+    still_made : own_events new.seat ≡ own_events mid.seat → MakesHome old new step
+    still_made same = room_behind old.blocks step.file (home_block old.part.config step.file step.key) old.seat mid.seat new.seat same drawn
+
     -- a step that was carried out behind the draws that made room
     pub done_answered : (r : Result (Option (List ℕ)) WriteRefused) → IsDone kind mid new t_mid t_new step r → IsKeyAnswered kind old new t_old t_new step r
     done_answered (Ok value) (what, done, gives) = (what, carried what done, gives)
@@ -143,7 +146,7 @@ module _ {D : Type 0} (kind : disk.Ghosts D) (old mid new : DiscView D) (t_old t
       (record { drawn = drawn.drawn; are = are_draws; events = h.1.disc_events ∙ drawn.events }, idle_then t_old t_mid t_new idle h.1.worker),
       inr (crowded_before damage h.2),
       still_brings h.1.blocks,
-      still_sought h.1.disc_events,
+      still_made h.1.disc_events,
     )
     done_answered (Err refused.Full) h = carried found.Full h
     done_answered (Err (refused.Refused reason)) h = carried (found.Refused reason) h
@@ -162,6 +165,11 @@ module _ {D : Type 0} (kind : disk.Ghosts D) (old mid new : DiscView D) (t_old t
         sought_before (Attempt t_old.tx) old.blocks mid.blocks step.file (home_block old.part.config step.file step.key) old.seat mid.seat new.seat blocks grown.mine
         (subst (λ (x : Transid × (ℕ × ℕ)). HasSoughtRoom (Attempt x.0) mid.blocks x.1.0 x.1.1 mid.seat new.seat) (λ j. (is j, (file j, number j))) h)
 
+    made_met : (f n : ℕ) → f ≡ step.file → n ≡ home_block old.part.config step.file step.key → HasMadeRoom mid.blocks f n mid.seat new.seat → MakesHome old new step
+    made_met f n file number h =
+        room_before old.blocks mid.blocks step.file (home_block old.part.config step.file step.key) old.seat mid.seat new.seat blocks grown.mine
+        (subst (λ (x : ℕ × ℕ). HasMadeRoom mid.blocks x.0 x.1 mid.seat new.seat) (λ j. (file j, number j)) h)
+
     pub unread_refused : (t : Transid) (f n : ℕ) → t ≡ t_old.tx → f ≡ step.file → n ≡ home_block old.part.config step.file step.key → IsIdle t_mid t_new → BringsIn mid.blocks new.blocks f n
         → (e : WriteRefused) → IsUnread kind t f n mid new e → IsRefused kind old new t_old t_new step e
     unread_refused t f n is file number still brings refused.NoMemory h = (
@@ -177,7 +185,7 @@ module _ {D : Type 0} (kind : disk.Ghosts D) (old mid new : DiscView D) (t_old t
       (draws_then old.seat mid.seat new.seat [] refl (grown.mine ∙ sym (append-nil (own_events old.seat))) h.1, idle_then t_old t_mid t_new idle still),
       inl (subst (λ (x : ℕ × ℕ). HasBadBlock kind new x.0 x.1 damage) (λ j. (file j, number j)) h.2),
       brings_met f n file number brings,
-      sought_met t f n is file number h.3,
+      made_met f n file number h.3,
     )
     unread_refused t f n is file number still brings (refused.Failed device) h = (
       begun,

@@ -11,7 +11,7 @@ use Rattle.block_cache.specs.Blocks.{View}
 use Rattle.block_cache.specs.Cache.{entry_at}
 use Rattle.block_cache.specs.declared.frame.Frame.{Frame}
 use Rattle.disc_process.specs.Blocks.{dirty_in, ended_in, half_in, position_in}
-use Rattle.disc_process.specs.Draw.{AreDraws, AreForRoom, HasBegun, HasMadeRoom, HasSoughtRoom, drawings, endings}
+use Rattle.disc_process.specs.Draw.{AreDraws, AreForRoom, HasBegun, HasMadeRoom, HasRoom, HasSoughtRoom, drawings, endings}
 use Rattle.disc_process.proofs.Drawn.{ended_drawings}
 
 -- the events of one block's draw are draws
@@ -22,14 +22,14 @@ draws_of_one f n p false true = refl
 draws_of_one f n p false false = refl
 
 pub room_draws : {D : Type 0} (blocks : View D) (f n : ℕ) (events : List Event) → AreForRoom blocks f n events → AreDraws events
-room_draws blocks f n events (inl none) = subst AreDraws (sym none) refl
+room_draws blocks f n events (inl none) = subst AreDraws (sym none.0) refl
 room_draws blocks f n events (inr h) =
     let entry = entry_at blocks.cache h.other_file h.other_number in
     subst AreDraws (sym h.of_one) (draws_of_one h.other_file h.other_number (position_in entry) (half_in entry) (dirty_in entry))
 
 -- where nothing was drawn
-pub no_room : {D : Type 0} (blocks : View D) (f n : ℕ) (v : Sight Event) → HasMadeRoom blocks f n v v
-no_room blocks f n v = record { drawn = []; room = inl refl; events = sym (append-nil (own_events v)) }
+pub no_room : {D : Type 0} (blocks : View D) (f n : ℕ) (v : Sight Event) → HasRoom blocks f n → HasMadeRoom blocks f n v v
+no_room blocks f n v has = record { drawn = []; room = inl (refl, has); events = sym (append-nil (own_events v)) }
 
 -- the disc has had no event more behind it
 pub room_behind : {D : Type 0} (blocks : View D) (f n : ℕ) (u v w : Sight Event) → own_events w ≡ own_events v → HasMadeRoom blocks f n u v → HasMadeRoom blocks f n u w

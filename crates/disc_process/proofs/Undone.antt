@@ -27,12 +27,12 @@ use Rattle.disc_process.specs.Damage.{WasRight}
 use Rattle.disc_process.specs.Disc.{DiscView}
 use Rattle.disc_process.specs.Draw.{AreDraws, AreForRoom, HasDrawn, HasMadeRoom, HasSoughtRoom, SameWork}
 use Rattle.disc_process.specs.Release.{with_event}
-use Rattle.disc_process.specs.Undo.{CannotTakeBack, HasPutBack, HasTakenBack, IsNewest, IsNotUndone, IsUndoAnswer, IsUndoRefusal, home_of_change, takes_back, undo_of, undo_refusal, undone_block}
+use Rattle.disc_process.specs.Undo.{CannotTakeBack, HasPutBack, HasRoomTill, HasTakenBack, IsNewest, IsNotUndone, IsUndoAnswer, IsUndoRefusal, home_of_change, takes_back, undo_of, undo_refusal, undone_block}
 use Rattle.disc_process.specs.Write.{HasBadBlock, IsUnread}
 use Rattle.disc_process.proofs.Answered.{eq_le}
 use Rattle.disc_process.proofs.Bringing.{others_brought, was_brought}
 use Rattle.disc_process.proofs.Drawn.{draws_then, refusal_more}
-use Rattle.disc_process.proofs.Rooms.{room_draws, sought_before, sought_made}
+use Rattle.disc_process.proofs.Rooms.{room_before, room_behind, room_draws, sought_before, sought_made}
 
 pub newest_later : (s m : DiscPart) (t : Transid) (change : Change) → SameWork s m → IsNewest s t change → IsNewest m t change
 newest_later s m t change work was = record {
@@ -106,13 +106,18 @@ module _ {D : Type 0} (kind : disk.Ghosts D) (old mid new : DiscView D) (t : Tra
   stuck_same stuck.NoMemory same = same
   stuck_same (stuck.Damaged device damage) h = h.1
 
+  room_stuck : (e : UndoRefused) → own_events new.seat ≡ own_events mid.seat → HasRoomTill old new t change e
+  room_stuck (stuck.Failed device) own = sought_made (Attempt t) old.blocks change.file (home_of_change old.part change) old.seat mid.seat new.seat drawn own
+  room_stuck stuck.NoMemory own = sought_made (Attempt t) old.blocks change.file (home_of_change old.part change) old.seat mid.seat new.seat drawn own
+  room_stuck (stuck.Damaged device damage) own = room_behind old.blocks change.file (home_of_change old.part change) old.seat mid.seat new.seat own drawn
+
   pub stuck_behind : BringsIn old.blocks mid.blocks change.file (home_of_change old.part change) → (e : UndoRefused) → HasTakenBack kind mid new t change (Err e) → IsNotUndone kind old new t e
   stuck_behind brings e h = record {
     change = change;
     newest = newest;
     why = why_stuck e h;
     brings = subst (λ (v : DiscView D). BringsIn old.blocks v.blocks change.file (home_of_change old.part change)) (sym (stuck_same e h)) brings;
-    room = sought_made (Attempt t) old.blocks change.file (home_of_change old.part change) old.seat mid.seat new.seat drawn (ap (λ (v : DiscView D). own_events v.seat) (stuck_same e h));
+    room = room_stuck e (ap (λ (v : DiscView D). own_events v.seat) (stuck_same e h));
   }
 
 -- a block that was not read
@@ -127,14 +132,15 @@ why_unread kind old new t change f n file number (refused.Busy holder) h = absur
 why_unread kind old new t change f n file number refused.Full h = absurd h
 why_unread kind old new t change f n file number (refused.Refused reason) h = absurd h
 
-why_sought : {D : Type 0} (kind : disk.Ghosts D) (old new : DiscView D) (t : Transid) (f n : ℕ) (e : WriteRefused) → IsUnread kind t f n old new e → HasSoughtRoom (Attempt t) old.blocks f n old.seat new.seat
-why_sought kind old new t f n refused.NoMemory h = h.1
-why_sought kind old new t f n (refused.Failed device) h = h.1
-why_sought kind old new t f n (refused.Damaged device damage) h = h.3
-why_sought kind old new t f n (refused.Spent part) h = absurd h
-why_sought kind old new t f n (refused.Busy holder) h = absurd h
-why_sought kind old new t f n refused.Full h = absurd h
-why_sought kind old new t f n (refused.Refused reason) h = absurd h
+room_till : {D : Type 0} (kind : disk.Ghosts D) (old new : DiscView D) (t : Transid) (change : Change) (f n : ℕ) → f ≡ change.file → n ≡ home_of_change old.part change
+    → (e : WriteRefused) → IsUnread kind t f n old new e → HasRoomTill old new t change (undo_refusal e)
+room_till kind old new t change f n file number refused.NoMemory h = subst (λ (x : ℕ × ℕ). HasSoughtRoom (Attempt t) old.blocks x.0 x.1 old.seat new.seat) (λ j. (file j, number j)) h.1
+room_till kind old new t change f n file number (refused.Failed device) h = subst (λ (x : ℕ × ℕ). HasSoughtRoom (Attempt t) old.blocks x.0 x.1 old.seat new.seat) (λ j. (file j, number j)) h.1
+room_till kind old new t change f n file number (refused.Damaged device damage) h = subst (λ (x : ℕ × ℕ). HasMadeRoom old.blocks x.0 x.1 old.seat new.seat) (λ j. (file j, number j)) h.3
+room_till kind old new t change f n file number (refused.Spent part) h = absurd h
+room_till kind old new t change f n file number (refused.Busy holder) h = absurd h
+room_till kind old new t change f n file number refused.Full h = absurd h
+room_till kind old new t change f n file number (refused.Refused reason) h = absurd h
 
 pub unread_stuck : {D : Type 0} (kind : disk.Ghosts D) (old new : DiscView D) (t : Transid) (change : Change) (f n : ℕ) → IsNewest old.part t change → f ≡ change.file → n ≡ home_of_change old.part change
     → BringsIn old.blocks new.blocks f n → (e : WriteRefused) → IsUnread kind t f n old new e → IsNotUndone kind old new t (undo_refusal e)
@@ -143,7 +149,7 @@ unread_stuck kind old new t change f n newest file number brings e h = record {
   newest = newest;
   why = why_unread kind old new t change f n file number e h;
   brings = subst (λ (x : ℕ × ℕ). BringsIn old.blocks new.blocks x.0 x.1) (λ j. (file j, number j)) brings;
-  room = subst (λ (x : ℕ × ℕ). HasSoughtRoom (Attempt t) old.blocks x.0 x.1 old.seat new.seat) (λ j. (file j, number j)) (why_sought kind old new t f n e h);
+  room = room_till kind old new t change f n file number e h;
 }
 
 -- behind a meeting
@@ -166,14 +172,23 @@ module _ {D : Type 0} (kind : disk.Ghosts D) (old mid new : DiscView D) (t : Tra
       refusal_more kind.faults (Attempt t) old mid new (stopped.Failed device) [] (ap (λ (s : DiscPart). s.config) part) (ap (λ (s : DiscPart). s.number) part) grown.begins
       (grown.mine ∙ sym (append-nil (own_events old.seat))) refl (eq_le (sym (ap (λ (v : View D). kind.faults v.device) blocks))) later h
 
+  sought_met : (change : Change) → HasSoughtRoom (Attempt t) mid.blocks change.file (home_of_change mid.part change) mid.seat new.seat → HasSoughtRoom (Attempt t) old.blocks change.file (home_of_change old.part change) old.seat new.seat
+  sought_met change h = sought_before (Attempt t) old.blocks mid.blocks change.file (home_of_change old.part change) old.seat mid.seat new.seat blocks grown.mine
+      (subst (λ (s : DiscPart). HasSoughtRoom (Attempt t) mid.blocks change.file (home_of_change s change) mid.seat new.seat) part h)
+
+  room_met : (change : Change) (e : UndoRefused) → HasRoomTill mid new t change e → HasRoomTill old new t change e
+  room_met change (stuck.Failed device) h = sought_met change h
+  room_met change stuck.NoMemory h = sought_met change h
+  room_met change (stuck.Damaged device damage) h = room_before old.blocks mid.blocks change.file (home_of_change old.part change) old.seat mid.seat new.seat blocks grown.mine
+      (subst (λ (s : DiscPart). HasMadeRoom mid.blocks change.file (home_of_change s change) mid.seat new.seat) part h)
+
   pub refusal_met : (e : UndoRefused) → IsNotUndone kind mid new t e → IsNotUndone kind old new t e
   refusal_met e h = record {
     change = h.change;
     newest = newest_met h.change h.newest;
     why = why_met h.change e h.why;
     brings = subst (λ (x : View D × DiscPart). BringsIn x.0 new.blocks h.change.file (home_of_change x.1 h.change)) (λ j. (blocks j, part j)) h.brings;
-    room = sought_before (Attempt t) old.blocks mid.blocks h.change.file (home_of_change old.part h.change) old.seat mid.seat new.seat blocks grown.mine
-        (subst (λ (s : DiscPart). HasSoughtRoom (Attempt t) mid.blocks h.change.file (home_of_change s h.change) mid.seat new.seat) part h.room);
+    room = room_met h.change e h.room;
   }
 
   pub answer_met : (r : Result Bool UndoRefused) → IsUndoAnswer kind mid new t r → IsUndoAnswer kind old new t r

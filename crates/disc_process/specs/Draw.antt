@@ -1,7 +1,7 @@
 -- What a draw says.
 use Rattle.std.specs.Prelude.{◌≡◌, ◌⊎◌, ◌∷◌, ◌++◌, ◌+◌, ◌<◌, ◌≤◌, ℕ, Bool, true, false, List, [], Option, None, if◌then◌else◌, slice_get}
 use Rattle.std.specs.List.{list_all}
-use Rattle.std.specs.Option.{option_map}
+use Rattle.std.specs.Option.{IsSome, option_map}
 use mathlib.Core.List.{IsPrefix}
 use Rattle.chronicle.specs.Seats.{Sight, HasGrown, own_events}
 use Rattle.disk_model.specs.Held.{Rose}
@@ -79,9 +79,13 @@ pub record MakeRoom {D : Type 0} (blocks : View D) (f n : ℕ) (events : List Ev
   pub dirty : InCache blocks.cache other_file other_number (λ x. is_dirty x ≡ true)
   pub of_one : events ≡ endings other_file other_number (entry_at blocks.cache other_file other_number) ++ drawings other_file other_number (entry_at blocks.cache other_file other_number)
 
--- no draws, or such
+-- the block is in the cache, or a frame gives way for it
+abbrev pub HasRoom : {D : Type 0} → View D → ℕ → ℕ → Type 0
+HasRoom blocks f n = entry_at blocks.cache f n ≡ None → IsSome (victim_of blocks.cache)
+
+-- no draws, where there was room for the block; or such
 abbrev pub AreForRoom : {D : Type 0} → View D → ℕ → ℕ → List Event → Type 0
-AreForRoom blocks f n events = (events ≡ []) ⊎ MakeRoom blocks f n events
+AreForRoom blocks f n events = ((events ≡ []) × HasRoom blocks f n) ⊎ MakeRoom blocks f n events
 
 -- the disc has had no events but such
 pub record HasMadeRoom {D : Type 0} (blocks : View D) (f n : ℕ) (v w : Sight Event) : Type 0 where

@@ -26,7 +26,7 @@ use Rattle.disc_process.specs.declared.undo_refused.UndoRefused.TheVariants as s
 use Rattle.disc_process.specs.Blocks.{BringsIn, IsKeptOrGone, cached, with_change}
 use Rattle.disc_process.specs.Damage.{WasRight}
 use Rattle.disc_process.specs.Disc.{DiscView}
-use Rattle.disc_process.specs.Draw.{AreDraws, AreForRoom, HasDrawn, HasOnlySeen, HasSoughtRoom, IsDrawRefusal, is_draw}
+use Rattle.disc_process.specs.Draw.{AreDraws, AreForRoom, HasDrawn, HasMadeRoom, HasOnlySeen, HasSoughtRoom, IsDrawRefusal, is_draw}
 use Rattle.disc_process.specs.Later.{IsLaterDisc}
 use Rattle.disc_process.specs.LiveTx.{change_of}
 use Rattle.disc_process.specs.Release.{HasFreed, releasings, with_event}
@@ -92,14 +92,19 @@ IsUndoRefusal kind old new t change (stuck.Damaged device damage) =
     × (HasBadBlock kind new change.file (home_of_change old.part change) damage ⊎ CannotTakeBack kind new.handed_in old.part new.blocks change damage)
 IsUndoRefusal kind old new t change stuck.NoMemory = HasDrawn old.seat new.seat
 
+-- what draws make room for the block of a change that is not undone for this reason: where something is wrong in the block, all of them; else a front of them
+abbrev pub HasRoomTill : {D : Type 0} → DiscView D → DiscView D → Transid → Change → UndoRefused → Type 0
+HasRoomTill old new t change (stuck.Damaged device damage) = HasMadeRoom old.blocks change.file (home_of_change old.part change) old.seat new.seat
+HasRoomTill old new t change _ = HasSoughtRoom (Attempt t) old.blocks change.file (home_of_change old.part change) old.seat new.seat
+
 -- A change was left, and the newest is not undone, for this reason. Its block may have been brought into the cache, where each other one is as it was, or has given
--- way, behind draws that make room for it and that may have been broken off.
+-- way, behind draws that make room for it.
 pub record IsNotUndone {D : Type 0} (kind : disk.Ghosts D) (old new : DiscView D) (t : Transid) (refusal : UndoRefused) : Type 0 where
   pub change : Change
   pub newest : IsNewest old.part t change
   pub why : IsUndoRefusal kind old new t change refusal
   pub brings : BringsIn old.blocks new.blocks change.file (home_of_change old.part change)
-  pub room : HasSoughtRoom (Attempt t) old.blocks change.file (home_of_change old.part change) old.seat new.seat
+  pub room : HasRoomTill old new t change refusal
 
 -- what the answer says: whether a change was undone, which is the newest that was left
 abbrev pub IsUndoAnswer : {D : Type 0} → disk.Ghosts D → DiscView D → DiscView D → Transid → Result Bool UndoRefused → Type 0

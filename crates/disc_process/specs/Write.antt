@@ -30,7 +30,7 @@ use Rattle.disc_process.specs.declared.found.Found.TheVariants as found
 use Rattle.disc_process.specs.Blocks.{BringsIn, IsKeptOrGone, cached, with_change}
 use Rattle.disc_process.specs.Damage.{HadBadBlock, WasRight}
 use Rattle.disc_process.specs.Disc.{DiscView, FindsIn, IsFit, IsSpent, event_of}
-use Rattle.disc_process.specs.Draw.{AreDraws, AreForRoom, HasDrawn, HasSoughtRoom, IsDrawRefusal}
+use Rattle.disc_process.specs.Draw.{AreDraws, AreForRoom, HasDrawn, HasMadeRoom, HasSoughtRoom, IsDrawRefusal}
 use Rattle.disc_process.specs.FileLocks.{BlocksFile, IsFileFree}
 
 -- the worker has had no event, and has enlisted no disc
@@ -133,6 +133,10 @@ BringsHome old new step = BringsIn old.blocks new.blocks step.file (home_block o
 abbrev pub SeeksHome : {D : Type 0} → DiscView D → DiscView D → Txn → Step → Type 0
 SeeksHome old new t step = HasSoughtRoom (Attempt t.tx) old.blocks step.file (home_block old.part.config step.file step.key) old.seat new.seat
 
+-- the disc has had the draws that make room for the block of the step's key
+abbrev pub MakesHome : {D : Type 0} → DiscView D → DiscView D → Step → Type 0
+MakesHome old new step = HasMadeRoom old.blocks step.file (home_block old.part.config step.file step.key) old.seat new.seat
+
 -- what the refusal of a step on a key says, of a volume of this kind; each of them says that no earlier one held, and want of memory comes anywhere behind Spent and Busy
 abbrev pub IsRefused : {D : Type 0} → disk.Ghosts D → DiscView D → DiscView D → Txn → Txn → Step → WriteRefused → Type 0
 IsRefused kind old new t_old t_new step (refused.Spent part) = IsStill old new t_old t_new × IsSpent old.part t_old old.seat new.seat.seen part
@@ -143,7 +147,7 @@ IsRefused kind old new t_old t_new step (refused.Failed device) =
     MayBegin old new t_old step × IsDrawRefusal kind.faults (Attempt t_old.tx) old new (stopped.Failed device) × IsIdle t_old t_new × BringsHome old new step × SeeksHome old new t_old step
 IsRefused kind old new t_old t_new step (refused.Damaged device damage) =
     MayBegin old new t_old step × (device ≡ 4 + old.part.number) × (HasDrawn old.seat new.seat × IsIdle t_old t_new)
-    × (HasBadBlock kind new step.file (home_block old.part.config step.file step.key) damage ⊎ IsCrowded kind new.handed_in old.part new.blocks step damage) × BringsHome old new step × SeeksHome old new t_old step
+    × (HasBadBlock kind new step.file (home_block old.part.config step.file step.key) damage ⊎ IsCrowded kind new.handed_in old.part new.blocks step damage) × BringsHome old new step × MakesHome old new step
 IsRefused kind old new t_old t_new step refused.Full = HasCarriedOut old new t_old t_new step found.Full
 IsRefused kind old new t_old t_new step (refused.Refused reason) = HasCarriedOut old new t_old t_new step (found.Refused reason)
 
@@ -206,5 +210,5 @@ abbrev pub IsUnread : {D : Type 0} → disk.Ghosts D → Transid → ℕ → ℕ
 IsUnread kind t f n old new refused.NoMemory = HasDrawn old.seat new.seat × HasSoughtRoom (Attempt t) old.blocks f n old.seat new.seat
 IsUnread kind t f n old new (refused.Failed device) = IsDrawRefusal kind.faults (Attempt t) old new (stopped.Failed device) × HasSoughtRoom (Attempt t) old.blocks f n old.seat new.seat
 IsUnread kind t f n old new (refused.Damaged device damage) =
-    (device ≡ 4 + old.part.number) × HasDrawn old.seat new.seat × HasBadBlock kind new f n damage × HasSoughtRoom (Attempt t) old.blocks f n old.seat new.seat
+    (device ≡ 4 + old.part.number) × HasDrawn old.seat new.seat × HasBadBlock kind new f n damage × HasMadeRoom old.blocks f n old.seat new.seat
 IsUnread kind t f n old new _ = ⊥

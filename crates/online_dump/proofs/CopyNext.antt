@@ -34,7 +34,7 @@ use Rattle.disc_process.specs.Write.{IsUnread}
 use Rattle.disc_process.proofs.Drawing.{values_at_end}
 use Rattle.disc_process.proofs.Drawn.{draws_then, refusal_more}
 use Rattle.disc_process.proofs.Handing.{all_up_to}
-use Rattle.disc_process.proofs.Rooms.{sought_before}
+use Rattle.disc_process.proofs.Rooms.{room_before, sought_before}
 use Rattle.online_dump.specs.AtDisc.{HasOnlySeen}
 use Rattle.online_dump.specs.Copies.{IsContentBehind, ToldBy, files_of}
 use Rattle.online_dump.specs.Dumper.{AreCopied, Dumper, IsCopying, base_found, base_in, open_dump, open_in}
@@ -99,7 +99,7 @@ unread_met {D} kind t f n old mid new part blocks begins mine later e h = of e h
     refusal_more kind.faults (Attempt t) old mid new (stopped.Failed device) [] (ap (λ (s : DiscPart). s.config) part) (ap (λ (s : DiscPart). s.number) part) begins own refl less later h.0,
     sought h.1,
   )
-  of (refused.Damaged device damage) h = (h.0 ∙ ap (λ (s : DiscPart). 4 + s.number) part, draws_then old.seat mid.seat new.seat [] refl own h.1, h.2, sought h.3)
+  of (refused.Damaged device damage) h = (h.0 ∙ ap (λ (s : DiscPart). 4 + s.number) part, draws_then old.seat mid.seat new.seat [] refl own h.1, h.2, room_before old.blocks mid.blocks f n old.seat mid.seat new.seat blocks mine h.3)
   of (refused.Spent part_) h = absurd h
   of (refused.Busy holder_) h = absurd h
   of refused.Full h = absurd h

@@ -11,10 +11,10 @@ use Rattle.node_machine.specs.declared.event.Event.{Event}
 use Rattle.node_machine.specs.declared.event.Event.TheVariants.{OfDisc}
 use Rattle.disc_process.specs.declared.refused.WriteRefused.{WriteRefused}
 use Rattle.disc_process.specs.declared.refused.WriteRefused.TheVariants as refused
-use Rattle.disc_process.specs.Draw.{HasDrawn, HasSoughtRoom}
+use Rattle.disc_process.specs.Draw.{HasDrawn, HasMadeRoom}
 use Rattle.disc_process.specs.Write.{HasBadBlock, IsUnread}
 use Rattle.disc_process.proofs.Drawn.{if_err, rose_more}
-use Rattle.disc_process.proofs.Rooms.{sought_failed, sought_made}
+use Rattle.disc_process.proofs.Rooms.{room_behind, sought_failed, sought_made}
 use Rattle.disc_process.proofs.Unread.{unread_draw}
 use Rattle.disc_process.specs.Refused.{refused_from}
 use Rattle.disk_model.specs.Held.{Rose}
@@ -46,10 +46,10 @@ returns-in-Err-Damaged-clause-refused g c =
     let damage = c.in-Err-Damaged.damage in
     let d = c.in_ok-make_room.ensures.drawn in
     let has : HasDrawn old.seat new.seat = record { drawn = d.0.drawn; are = d.0.are; events = ap (λ (v : Sight Event). own_events v) c.load.ensures.seat ∙ d.0.events } in
-    let sought = sought_made (Attempt c.args.t) old.blocks f n old.seat c.make_room.new.self.seat new.seat c.in_ok-make_room.ensures.made (ap (λ (v : Sight Event). own_events v) c.load.ensures.seat) in
+    let made : HasMadeRoom old.blocks f n old.seat new.seat = room_behind old.blocks f n old.seat c.make_room.new.self.seat new.seat (ap (λ (v : Sight Event). own_events v) c.load.ensures.seat) c.in_ok-make_room.ensures.made in
     let named : 4 + new.part.number ≡ 4 + old.part.number = ap (λ (s : DiscPart). 4 + s.number) c.load.ensures.part ∙ ap (λ (k : ℕ). 4 + k) d.1.number in
     if_err c.damaged.result (λ e. (e ≡ refused.Damaged (4 + new.part.number) damage) × HasBadBlock g.D.Disk new f n damage) (IsUnread g.D.Disk c.args.t f n old new)
-    (λ e h. subst (λ (x : WriteRefused). IsUnread g.D.Disk c.args.t f n old new x) (sym h.0) (named, has, h.1, sought)) c.damaged.ensures.refused
+    (λ e h. subst (λ (x : WriteRefused). IsUnread g.D.Disk c.args.t f n old new x) (sym h.0) (named, has, h.1, made)) c.damaged.ensures.refused
 
 pub returns-in-Err-Failed-clause-refused : goal.returns-in-Err-Failed-clause-refused
 returns-in-Err-Failed-clause-refused g c =

@@ -5,7 +5,7 @@ use Rattle.keyed_file.specs.Volume.{blocks_of as label_blocks}
 use Rattle.block_cache.specs.Blocks.{InCache}
 use Rattle.block_cache.specs.Cache.{CacheView, IsCache, KeepsFrames, entry_at, frame_at, is_dirty, place_of, victim_of}
 use Rattle.disc_process.specs.Disc.{DiscView}
-use Rattle.disc_process.specs.Draw.{HasBegun, HasMadeRoom, HasSoughtRoom, IsClean, drawings, endings}
+use Rattle.disc_process.specs.Draw.{HasBegun, HasMadeRoom, HasRoom, HasSoughtRoom, IsClean, drawings, endings}
 use Rattle.disc_process.proofs.Bringing.{draw_same}
 use Rattle.disc_process.proofs.Caches.{room_made}
 use Rattle.disc_process.proofs.Keeping.{err_map, ok_map}
@@ -59,7 +59,9 @@ returns-in-Some-clause-made g c =
     }) a.ensures.events
 
 pub returns-in-None-clause-made : goal.returns-in-None-clause-made
-returns-in-None-clause-made g c = no_room c.args.self.now.blocks c.args.n.file c.args.n.number c.args.self.now.seat
+returns-in-None-clause-made g c =
+    no_room c.args.self.now.blocks c.args.n.file c.args.n.number c.args.self.now.seat
+    (subst (λ (v : DiscView g.row.D.Denot). HasRoom v.blocks c.args.n.file c.args.n.number) c.self.view_is c.in-None.ensures.none)
 
 pub returns-in-Some-clause-sought : goal.returns-in-Some-clause-sought
 returns-in-Some-clause-sought g c =
