@@ -1,6 +1,6 @@
 //! The words that the program is called with, by a table.
 use std::test::Fail;
-use tmf_lines::{accepts, bank_of, dir_of};
+use tmf_words::{accepts, bank_of, dir_of};
 
 // The words of each call, with a bar between two of them, and the folder of those that are accepted.
 const CALLS: [(&str, Option<Option<&str>>); 52] = [

@@ -2,7 +2,7 @@
 use Rattle.std.specs.Prelude.{Option, Some, None, bytes_eq, codes, is_some, if◌then◌else◌}
 use Rattle.std.proofs.Common.{◌≡◌, ◌≢◌, ◌&&◌, ◌||◌, ◌∷◌, [], ℕ, Bool, List, true, false, refl, sym, ap, subst, ◌∙◌}
 use Rattle.std.proofs.lemmas.Slice.Eq.{bytes_eq-Decides}
-use Rattle.tmf_lines.specs.Words.{are_accepted, bank_of, is_run, number_first, number_of_first}
+use Rattle.tmf_words.specs.Words.{are_accepted, bank_of, is_run, number_first, number_of_first}
 
 -- words have one number of transfers, or none
 pub other-bank : (words : List (List ℕ)) (transfers : ℕ) → bank_of words ≡ None → bank_of words ≢ Some transfers

@@ -28,7 +28,7 @@ use std::alloc::{AllocError, Global};
 use std::process::ExitCode;
 use std::{env, io};
 use tmf_edges::{StdSink, StdSource};
-use tmf_lines::dir_of;
+use tmf_words::dir_of;
 use top::tmf;
 
 /// The words, in a list.

@@ -20,7 +20,7 @@ ghost use Rattle.tmf_lines.specs.Script.{IsRefusalOf, IsScriptOf};
 ghost use Rattle.tmf_cli.specs.OneOutput.{FormatsFirst, IsTheOutput, NoneRose};
 ghost use Rattle.tmf_cli.specs.OutputLaw.{HasFailed, Candidate};
 ghost use Rattle.tmf_cli.specs.Top.{read_limit, stop_lines, IsStatusCaused, IsUnreadCaused, IsGiven, EndsStopped, SaysWhy, TellsRefusal, IsScript, Opens, Tells, TellsBy};
-ghost use Rattle.tmf_lines.specs.Words.{are_accepted, bank_of, is_run};
+ghost use Rattle.tmf_words.specs.Words.{are_accepted, bank_of, is_run};
 ghost use Rattle.disk_model.specs.Devices.{DevicesTell, FuseRestarts};
 
 use crate::bank::run_bank;
@@ -34,10 +34,10 @@ use std::sync::Wait;
 use std::thread::Threads;
 use tmf_edges::{ReadFault, Sink, Source, read_to_limit};
 use tmf_lines::{
-    DeviceTrouble, GiveFault, Line, ScriptRefusal, accepts, bank_of, device_name, give_lines,
-    read_script,
+    DeviceTrouble, GiveFault, Line, ScriptRefusal, device_name, give_lines, read_script,
 };
 use tmf_model::{Config, Script};
+use tmf_words::{accepts, bank_of};
 
 /// The most bytes that are read of a script: one more than it may have.
 const READ_LIMIT: usize = 4_194_305;

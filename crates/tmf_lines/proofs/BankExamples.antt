@@ -1,45 +1,11 @@
--- The words of bank runs, and what their lines come to, computed.
+-- What the lines of bank runs come to, computed.
 use Rattle.std.specs.Prelude.{negsuc}
 use Rattle.std.specs.Fmt.{digits}
-use Rattle.std.proofs.Common.{◌≡◌, ℕ, pos, false, List, [], ◌∷◌, codes, Some, None, refl}
+use Rattle.std.proofs.Common.{◌≡◌, pos, [], ◌∷◌, codes, refl}
 use Rattle.tmf_lines.specs.declared.line.Line.TheVariants as line
 use Rattle.tmf_lines.specs.Summary.{number_or_zero, summary_text}
-use Rattle.tmf_lines.specs.Words.{are_accepted, bank_of, folder_of, transfers_of}
 use Rattle.tmf_lines.proofs.Examples.{item, text_of}
 use Rattle.tmf_model.specs.declared.script.Reason.TheVariants as reason
-
--- the words behind the program's name
-abbrev words : List (List ℕ) → List (List ℕ)
-words behind = codes "tmf" ∷ behind
-
--- the number and the folder of each form
-forms : (bank_of (words (codes "bank" ∷ codes "5" ∷ [])) ≡ Some 5)
-    × (bank_of (words (codes "bank" ∷ codes "4095" ∷ codes "--dir" ∷ codes "d" ∷ [])) ≡ Some 4095)
-    × (bank_of (words (codes "bank" ∷ codes "1" ∷ codes "--dir=d" ∷ [])) ≡ Some 1)
-    × (bank_of (words (codes "bank" ∷ codes "--dir" ∷ codes "d" ∷ codes "5" ∷ [])) ≡ Some 5)
-    × (bank_of (words (codes "bank" ∷ codes "--dir=d" ∷ codes "5" ∷ [])) ≡ Some 5)
-    × (folder_of (words (codes "bank" ∷ codes "5" ∷ [])) ≡ None)
-    × (folder_of (words (codes "bank" ∷ codes "5" ∷ codes "--dir" ∷ codes "d" ∷ [])) ≡ Some (codes "d"))
-    × (folder_of (words (codes "bank" ∷ codes "--dir=d" ∷ codes "5" ∷ [])) ≡ Some (codes "d"))
-    × (folder_of (words (codes "bank" ∷ codes "--dir" ∷ codes "5" ∷ codes "5" ∷ [])) ≡ Some (codes "5"))
-    × (folder_of (words (codes "run" ∷ codes "--dir" ∷ codes "d" ∷ [])) ≡ Some (codes "d"))
-unfolding digits transfers_of
-forms = (refl, refl, refl, refl, refl, refl, refl, refl, refl, refl)
-
--- words of no form
-refused : (are_accepted (words (codes "bank" ∷ [])) ≡ false)
-    × (are_accepted (words (codes "bank" ∷ codes "0" ∷ [])) ≡ false)
-    × (are_accepted (words (codes "bank" ∷ codes "4096" ∷ [])) ≡ false)
-    × (are_accepted (words (codes "bank" ∷ codes "007" ∷ [])) ≡ false)
-    × (are_accepted (words (codes "bank" ∷ codes "+5" ∷ [])) ≡ false)
-    × (are_accepted (words (codes "bank" ∷ codes "5" ∷ codes "5" ∷ [])) ≡ false)
-    × (are_accepted (words (codes "bank" ∷ codes "5" ∷ codes "run" ∷ [])) ≡ false)
-    × (are_accepted (words (codes "bank" ∷ codes "--dir" ∷ codes "5" ∷ [])) ≡ false)
-    × (are_accepted (words (codes "bank" ∷ codes "5" ∷ codes "--dir=" ∷ [])) ≡ false)
-    × (are_accepted (words (codes "bank" ∷ codes "--dir=d" ∷ codes "5" ∷ codes "--dir=d" ∷ [])) ≡ false)
-    × (are_accepted (words (codes "run" ∷ codes "5" ∷ [])) ≡ false)
-unfolding digits transfers_of
-refused = (refl, refl, refl, refl, refl, refl, refl, refl, refl, refl, refl)
 
 -- values that are numbers, and values that are none
 numbers : (number_or_zero (codes "-70") ≡ negsuc 69) × (number_or_zero (codes "9223372036854775807") ≡ pos 9223372036854775807) × (number_or_zero (codes "007") ≡ pos 0) × (number_or_zero (codes "9223372036854775808") ≡ pos 0) × (number_or_zero (codes "anna") ≡ pos 0)

@@ -1,5 +1,4 @@
 pub mod BankExamples
-pub mod Counts
 pub mod Examples
 pub mod LineTexts
 pub mod Reports

@@ -3,4 +3,3 @@ pub mod Line
 pub mod Report
 pub mod Script
 pub mod Summary
-pub mod Words

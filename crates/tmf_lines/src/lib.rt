@@ -1,4 +1,4 @@
-//! What the program prints and reads as text: its lines, the words that it is called with, and scripts.
+//! What the program prints and reads as text: its lines and scripts.
 #![tactic(auto)]
 
 mod line;
@@ -7,7 +7,6 @@ mod pieces;
 mod report;
 mod script;
 mod summary;
-mod words;
 
 pub use line::{ActionKind, DeviceName, DeviceTrouble, Line, PartName, add_line};
 pub use output::{GiveFault, give_lines};
@@ -17,4 +16,3 @@ pub use report::{
 };
 pub use script::{ScriptRefusal, read_script};
 pub use summary::{Summary, give_summary};
-pub use words::{accepts, bank_of, dir_of};

@@ -2,7 +2,7 @@ use Rattle.std.specs.Prelude.{None, map, string_bytes}
 use Rattle.std.proofs.Common.{rules, ◌≡◌, ◌≤◌, ℕ, IsTrue, false, refl, sym, ap, subst, ◌∙◌, inl, inr, ⊎_elim, arith}
 use Rattle.disk_model.proofs.Devices.{rose-after}
 use Rattle.disk_model.specs.Devices.{FuseRestarts}
-use Rattle.tmf_lines.specs.Words.{are_accepted}
+use Rattle.tmf_words.specs.Words.{are_accepted}
 use Rattle.tmf_script.proofs.Validity.{valid_text}
 use Rattle.tmf_cli.specs.Headline.{KeepsEveryCommit}
 use Rattle.tmf_cli.specs.Status.{code_of}

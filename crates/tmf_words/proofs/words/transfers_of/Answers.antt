@@ -1,9 +1,9 @@
 use Rattle.std.proofs.Common.{◌≡◌, true, sym, ap, ◌∙◌, arith}
 use Rattle.std.specs.Fmt.{decimal}
 use Rattle.std.proofs.lemmas.Slice.Eq.{bytes_eq-Decides}
-use Rattle.tmf_lines.proofs.Counts.{transfers_of-is, transfers_of-none, read_number}
-use Rattle.tmf_lines.proofs.words.transfers_of.Goals as goal
-use Rattle.tmf_lines.proofs.words.transfers_of.Goals.{else-number-ge1-via-then-number-ge1+then-number-le4095+else-eq, else-number-ge1-via-then-number-ge1+else-number-le4095, else-number-ge1-via-else-number-ge1}
+use Rattle.tmf_words.proofs.Counts.{transfers_of-is, transfers_of-none, read_number}
+use Rattle.tmf_words.proofs.words.transfers_of.Goals as goal
+use Rattle.tmf_words.proofs.words.transfers_of.Goals.{else-number-ge1-via-then-number-ge1+then-number-le4095+else-eq, else-number-ge1-via-then-number-ge1+else-number-le4095, else-number-ge1-via-else-number-ge1}
 
 pub returns-then-eq-clause-number : goal.returns-then-eq-clause-number
 returns-then-eq-clause-number c =

@@ -1,6 +1,6 @@
 //! The words that the program is called with.
 ghost use Rattle.std.specs.Prelude.{◌≡◌, ◌≤◌, ◌∷◌, [], map, option_map, string_bytes, IsTrue, IfSome, MatchOption};
-ghost use Rattle.tmf_lines.specs.Words.{is_folder, as_folder, option_folder, is_option, transfers_of, number_first, bank_of, is_run, are_accepted, folder_of};
+ghost use Rattle.tmf_words.specs.Words.{is_folder, as_folder, option_folder, is_option, transfers_of, number_first, bank_of, is_run, are_accepted, folder_of};
 
 use itoa::Buffer;
 

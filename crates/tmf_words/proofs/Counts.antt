@@ -1,5 +1,5 @@
 -- The words that are numbers of transfers.
-use Rattle.std.proofs.Common.{◌≡◌, ◌≢◌, ℕ, ◌<◌, ◌≤◌, ◌^◌, Bool, true, false, ◌&&◌, List, [], ◌∷◌, length, map, bytes_eq, Option, Some, None, Ok, Err, Result, refl, sym, ap, ◌∙◌, arith}
+use Rattle.std.proofs.Common.{◌≡◌, ℕ, ◌<◌, ◌≤◌, Bool, true, false, ◌&&◌, List, [], ◌∷◌, length, map, bytes_eq, Some, None, Ok, Result, refl, sym, ap, ◌∙◌, arith}
 use Rattle.std.specs.Prelude.{nat_le}
 use Rattle.std.specs.Fmt.{decimal}
 use Rattle.std.specs.Str.Parse.{digits_value, ParsesUnsigned}
@@ -8,17 +8,17 @@ use Rattle.std.proofs.lemmas.Fmt.{decimal_is_IsNumeral, parse-decimal}
 use Rattle.std.proofs.lemmas.Option.{cond_some}
 use Rattle.std.proofs.lemmas.Slice.Eq.{bytes_eq-Decides}
 use Rattle.tmf_model.specs.Transid.{is_between}
-use Rattle.tmf_lines.specs.Words.{bank_of, folder_of, transfers_of}
+use Rattle.tmf_words.specs.Words.{bank_of, folder_of, transfers_of}
 
 both_so : (a b : Bool) → a ≡ true → b ≡ true → (a && b) ≡ true
 both_so true b p q = q
 both_so false b p q = p
 
-first_so : (a b : Bool) → (a && b) ≡ true → a ≡ true
+pub first_so : (a b : Bool) → (a && b) ≡ true → a ≡ true
 first_so true b e = refl
 first_so false b e = e
 
-second_so : (a b : Bool) → (a && b) ≡ true → b ≡ true
+pub second_so : (a b : Bool) → (a && b) ≡ true → b ≡ true
 second_so true b e = e
 second_so false b e = cc
 
