@@ -1,6 +1,7 @@
 //! The words that the program is called with, by a table.
+use std::alloc::{AllocError, Global};
 use std::test::Fail;
-use tmf_words::{accepts, bank_of, dir_of};
+use tmf_words::{Asked, accepts, asked_by, bank_of, dir_of};
 
 // The words of each call, with a bar between two of them, and the folder of those that are accepted.
 const CALLS: [(&str, Option<Option<&str>>); 52] = [
@@ -95,6 +96,42 @@ fn a_bank_run_has_a_number(rt: HostRuntime) -> Result<(), Fail> {
             words.push(String::from_str(alloc, word)?)?;
         }
         assert!(rt; bank_of(&words) == answer, "{call}");
+    }
+    Ok(())
+}
+
+// The words of each call, and what those that are accepted ask for.
+const ASKED: [(&str, Option<Asked>); 10] = [
+    ("tmf|run", Some(Asked::Run)),
+    ("|run|--dir|bank", Some(Asked::Run)),
+    ("tmf|run|--dir=5", Some(Asked::Run)),
+    ("tmf|bank|1", Some(Asked::Bank(1))),
+    ("bank|bank|4095|--dir=d", Some(Asked::Bank(4095))),
+    ("tmf|bank|607|--dir|run", Some(Asked::Bank(607))),
+    ("tmf|bank|--dir|7|50", Some(Asked::Bank(50))),
+    ("tmf|bank|--dir=--dir|5", None),
+    ("tmf|bank|--dir=a=b|5", Some(Asked::Bank(5))),
+    ("tmf|--help", None),
+];
+
+// What the words ask for, if they are accepted.
+fn asked(alloc: Global, words: &[String]) -> Result<Option<Asked>, AllocError> {
+    if accepts(words) {
+        Ok(Some(asked_by(alloc, words)?))
+    } else {
+        Ok(None)
+    }
+}
+
+#[test]
+fn accepted_words_ask_for_a_run(rt: HostRuntime) -> Result<(), Fail> {
+    let alloc = rt.alloc();
+    for (call, answer) in ASKED {
+        let mut words = Vec::new(alloc);
+        for word in call.split('|') {
+            words.push(String::from_str(alloc, word)?)?;
+        }
+        assert!(rt; asked(alloc, &words)? == answer, "{call}");
     }
     Ok(())
 }

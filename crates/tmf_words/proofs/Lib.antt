@@ -1,2 +1,4 @@
+pub mod Asking
 pub mod Counts
+pub mod Found
 pub mod WordsExamples

@@ -1,6 +1,10 @@
 -- Words that are accepted and words that are not, computed.
 use Rattle.std.specs.Fmt.{digits}
-use Rattle.std.proofs.Common.{◌≡◌, ℕ, false, List, [], ◌∷◌, codes, Some, None, refl}
+use Rattle.std.proofs.Common.{◌≡◌, ℕ, true, false, List, [], ◌∷◌, codes, Some, None, refl}
+use Rattle.clap.specs.Words.{subcommand_of, takes}
+use Rattle.clap.proofs.OnLiterals.{clap_on_literals}
+use Rattle.tmf_words.specs.Asked.{asked_of, number_in, program}
+use Rattle.tmf_words.specs.declared.asked.Asked.TheVariants.{Bank, Run}
 use Rattle.tmf_words.specs.Words.{are_accepted, bank_of, folder_of, transfers_of}
 
 -- the words behind the program's name
@@ -35,3 +39,21 @@ refused : (are_accepted (words (codes "bank" ∷ [])) ≡ false)
     × (are_accepted (words (codes "run" ∷ codes "5" ∷ [])) ≡ false)
 unfolding digits transfers_of
 refused = (refl, refl, refl, refl, refl, refl, refl, refl, refl, refl, refl)
+
+-- what accepted words ask for, and that of other words there is a run
+asked : (asked_of (words (codes "run" ∷ codes "--dir" ∷ codes "bank" ∷ [])) ≡ Run)
+    × (asked_of (words (codes "bank" ∷ codes "5" ∷ codes "--dir=d" ∷ [])) ≡ Bank 5)
+    × (asked_of (words (codes "bank" ∷ [])) ≡ Run)
+unfolding digits transfers_of
+asked = (refl, refl, refl)
+
+-- the command takes words of both forms, and none for help
+taken : (takes program (words (codes "run" ∷ [])) ≡ true)
+    × (takes program (words (codes "bank" ∷ codes "--dir" ∷ codes "d" ∷ codes "5" ∷ [])) ≡ true)
+    × (number_in (subcommand_of program (words (codes "bank" ∷ codes "--dir" ∷ codes "d" ∷ codes "5" ∷ []))) ≡ Some 5)
+    × (number_in (subcommand_of program (words (codes "run" ∷ codes "--dir" ∷ codes "5" ∷ []))) ≡ None)
+    × (takes program (words (codes "--help" ∷ [])) ≡ false)
+    × (takes program (words (codes "help" ∷ [])) ≡ false)
+    × (takes program (words (codes "run" ∷ codes "-h" ∷ [])) ≡ false)
+unfolding digits transfers_of clap_on_literals
+taken = (refl, refl, refl, refl, refl, refl, refl)

@@ -33,7 +33,7 @@ fn is_option(option: &[String]) -> bool
 }
 
 /// The number of transfers that the word is, if it is the decimal text of one from 1 to 4,095.
-fn transfers_of(word: &str) -> Option<u32>
+pub(crate) fn transfers_of(word: &str) -> Option<u32>
     ensures number { result ≡ transfers_of word.now }
     ensures within { IfSome result (λ number. (1 ≤ number) × (number ≤ 4095)) }
 {
