@@ -233,3 +233,6 @@ match-ok result value P Q is holds = subst (λ r. MatchResult r P Q) (sym is) ho
 
 pub if-value : {T E : Type 0} (result : Result T E) (value : T) (P : T → Type 0) → result ≡ Ok value → IfOk result P → P value
 if-value result value P is holds = subst (λ r. IfOk r P) is holds
+
+pub value-if : {T E : Type 0} (result : Result T E) (value : T) (P : T → Type 0) → result ≡ Ok value → P value → IfOk result P
+value-if result value P is holds = subst (λ r. IfOk r P) (sym is) holds

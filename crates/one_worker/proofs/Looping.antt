@@ -1,5 +1,5 @@
 -- The items of a run, between two of them.
-use Rattle.std.specs.Prelude.{◌≢◌, ◌==◌, All, Option, Some, None, MatchOption, false, if◌then◌else◌, slice_get}
+use Rattle.std.specs.Prelude.{◌≢◌, ◌==◌, All, Err, IfErr, IfOk, Ok, Option, Some, None, MatchOption, Result, false, if◌then◌else◌, slice_get}
 use Rattle.std.proofs.Common.{◌≡◌, inl, inr, ⊎_elim, ◌≤◌, ◌<◌, ◌^◌, ◌+◌, ℕ, suc, true, List, [], ◌∷◌, ◌++◌, length, refl, sym, ap, subst, ◌∙◌, arith, eq-eqb, length-append, append_assoc, append-nil}
 use Rattle.std.proofs.lemmas.Bool.{le-leb}
 use Rattle.disk_model.specs.declared.disk.Disk as disk
@@ -8,7 +8,7 @@ use Rattle.tmf_model.specs.declared.script.Item.{Item}
 use Rattle.tmf_model.specs.declared.script.Item.TheVariants.{Transaction as TransactionItem}
 use Rattle.tmf_model.specs.declared.script.Transaction.{Transaction}
 use Rattle.tmf_model.specs.declared.transid.Transid.{Transid}
-use Rattle.tmf_model.specs.RecordMap.{RecordMap}
+use Rattle.tmf_model.specs.RecordMap.{RecordMap, empty_map}
 use Rattle.tmf_model.specs.Script.{IsValidTransaction}
 use Rattle.tmf_model.specs.Transid.{is_transid}
 use Rattle.trail_files.specs.declared.monitor_record.MonitorRecord.{MonitorRecord}
@@ -26,7 +26,7 @@ use Rattle.std.specs.List.{AllByRecursion}
 use Rattle.one_worker.specs.Outcome.{AreOutcomes, IsEnd, IsOutcome, first_attempt, map_left, map_of_end, record_of_end, records_left}
 use Rattle.one_worker.specs.Positions.{HasPositions}
 use Rattle.one_worker.specs.BetweenItems.{HasItemDone, HasRunOn, HasStoppedOn, TrailsCarry, StopsIn, TrailsStand}
-use Rattle.one_worker.specs.RunLaw.{AreAdded, IsAt, IsTransaction}
+use Rattle.one_worker.specs.RunLaw.{AreAdded, AreAddedOn, IsAt, IsTransaction}
 use Rattle.one_worker.proofs.Meanings.{map_left-more, records_left-more}
 use Rattle.one_worker.proofs.Outcomes.{outcomes-more, outcomes-none, get-cases}
 
@@ -83,6 +83,16 @@ part-more items done rest more item epoch place next tx end outs old new newer p
           (get-cases outs (outcome_of tx end) outcome number e);
     }
 
+-- no outcome is added
+pub added-none : (config : Config) (epoch place : ℕ) (items : List Item) (map : RecordMap) (old new : List Outcome) → new ≡ old → AreAddedOn config epoch place items map old new
+added-none config epoch place items map old new same = record { done = []; added = same ∙ sym (append-nil old); outcomes = outcomes-none config epoch place items map }
+
+-- where nothing was read no outcome was added, and any map will do
+pub added-on : {T E : Type 0} (volumes : Result T E) (config : Config) (epoch place : ℕ) (items : List Item) (map_of : T → RecordMap) (old new : List Outcome) (Same : Type 0)
+    → IfOk volumes (λ loaded. AreAddedOn config epoch place items (map_of loaded) old new) → IfErr volumes (λ _. Same × (new ≡ old)) → (map : RecordMap) × AreAddedOn config epoch place items map old new
+added-on (Ok loaded) config epoch place items map_of old new Same are none = (map_of loaded, are)
+added-on (Err error) config epoch place items map_of old new Same are none = (empty_map, added-none config epoch place items empty_map old new none.1)
+
 -- the outcomes that were added are those of first items
 pub part-added : (items done rest : List Item) (epoch place next : ℕ) (tx : Transid) (outs old new : List Outcome) → IsPart items done rest epoch place next tx outs old new → AreAdded items epoch place old new
 part-added items done rest epoch place next tx outs old new part =
@@ -123,6 +133,33 @@ known-next config bases items done rest more item parts is known =
 pub labels-of : (config : Config) (bases : Bases) (item : Item) (t : Transaction) → item ≡ TransactionItem t → IsKnownItem config bases item → All (λ step. has_label config bases step.file ≡ true) t.steps
 labels-of config bases item t is known = subst (IsKnownItem config bases) is known
 
+module _ (config : Config) where
+  outcome-is : (items done rest more : List Item) (item : Item) (t : Transaction) (epoch place next : ℕ) (tx : Transid) (end : AttemptEnd) (outs old new : List Outcome) (map : RecordMap) → IsPart items done rest epoch place next tx outs old new
+      → rest ≡ item ∷ more → item ≡ TransactionItem t → IsEnd config.files t (map_left items epoch outs map) next end
+      → IsOutcome config epoch place items map outs (length outs) (outcome_of tx end)
+  outcome-is items done rest more item t epoch place next tx end outs old new map part is these ended = record {
+    transaction = t;
+    is_item = ap (λ n. slice_get items n) part.all ∙ ap (λ xs. slice_get xs (length done)) (part.parts ∙ ap (λ xs. done ++ xs) is) ∙ get-next done more item ∙ ap Some these;
+    tx = part.tx_is ∙ ap (λ n. first_attempt epoch (n + 1)) (sym part.all);
+    end = subst (λ n. IsEnd config.files t (map_left items epoch outs map) n end) (part.next_is ∙ ap (λ n. place + n) (sym part.all)) ended;
+  }
+
+  pub outcomes-next : (items done rest more : List Item) (item : Item) (t : Transaction) (epoch place next : ℕ) (tx : Transid) (end : AttemptEnd) (outs old new : List Outcome) (map : RecordMap) → IsPart items done rest epoch place next tx outs old new
+      → rest ≡ item ∷ more → item ≡ TransactionItem t → AreOutcomes config epoch place items map outs → IsEnd config.files t (map_left items epoch outs map) next end
+      → AreOutcomes config epoch place items map (outs ++ outcome_of tx end ∷ [])
+  outcomes-next items done rest more item t epoch place next tx end outs old new map part is these outcomes ended =
+      let few : length done + 1 ≤ length items = part-few items done rest more item epoch place next tx outs old new part is in
+      outcomes-more config epoch place items map outs (outcome_of tx end) outcomes (omega (arith, part.all, few)) (outcome-is items done rest more item t epoch place next tx end outs old new map part is these ended)
+
+  pub map-next : (items done rest more : List Item) (item : Item) (t : Transaction) (epoch place next : ℕ) (tx : Transid) (end : AttemptEnd) (outs old new : List Outcome) (map : RecordMap) → IsPart items done rest epoch place next tx outs old new
+      → rest ≡ item ∷ more → item ≡ TransactionItem t → IsValidTransaction config t
+      → map_of_end t end (map_left items epoch outs map) ≡ map_left items epoch (outs ++ outcome_of tx end ∷ []) map
+  map-next items done rest more item t epoch place next tx end outs old new map part is these valid =
+      sym (map_left-more items epoch outs (outcome_of tx end) t map
+      (ap (λ n. slice_get items n) part.all ∙ ap (λ xs. slice_get xs (length done)) (part.parts ∙ ap (λ xs. done ++ xs) is) ∙ get-next done more item ∙ ap Some these)
+      valid.attempts.above
+      (part.tx_is ∙ ap (λ n. first_attempt epoch (n + 1)) (sym part.all)))
+
 -- What is known of a run between two items, where its devices tell their states.
 pub record IsRunning {D : Type 0} (kind : disk.Ghosts D) (config : Config) (bases : Bases) (trails : Trails D) (next : ℕ → ℕ) (memory : RecordMap) (list : List MonitorRecord) (map : RecordMap) (items : List Item) (epoch place count : ℕ) (outs : List Outcome) : Type 0 where
   pub outcomes : AreOutcomes config epoch place items map outs
@@ -146,34 +183,8 @@ module _ {D : Type 0} (kind : disk.Ghosts D) (config : Config) (bases : Bases) w
       let few : length done + 1 ≤ length items = part-few items done rest more item epoch place next tx outs old new part is in
       (omega (arith, part.next_is, first, many), omega (arith, many, first, short, few))
 
-  outcome-is : (items done rest more : List Item) (item : Item) (t : Transaction) (epoch place next : ℕ) (tx : Transid) (end : AttemptEnd) (outs old new : List Outcome) (map : RecordMap) → IsPart items done rest epoch place next tx outs old new
-      → rest ≡ item ∷ more → item ≡ TransactionItem t → IsEnd config.files t (map_left items epoch outs map) next end
-      → IsOutcome config epoch place items map outs (length outs) (outcome_of tx end)
-  outcome-is items done rest more item t epoch place next tx end outs old new map part is these ended = record {
-    transaction = t;
-    is_item = ap (λ n. slice_get items n) part.all ∙ ap (λ xs. slice_get xs (length done)) (part.parts ∙ ap (λ xs. done ++ xs) is) ∙ get-next done more item ∙ ap Some these;
-    tx = part.tx_is ∙ ap (λ n. first_attempt epoch (n + 1)) (sym part.all);
-    end = subst (λ n. IsEnd config.files t (map_left items epoch outs map) n end) (part.next_is ∙ ap (λ n. place + n) (sym part.all)) ended;
-  }
-
-  outcomes-next : (items done rest more : List Item) (item : Item) (t : Transaction) (epoch place next : ℕ) (tx : Transid) (end : AttemptEnd) (outs old new : List Outcome) (map : RecordMap) → IsPart items done rest epoch place next tx outs old new
-      → rest ≡ item ∷ more → item ≡ TransactionItem t → AreOutcomes config epoch place items map outs → IsEnd config.files t (map_left items epoch outs map) next end
-      → AreOutcomes config epoch place items map (outs ++ outcome_of tx end ∷ [])
-  outcomes-next items done rest more item t epoch place next tx end outs old new map part is these outcomes ended =
-      let few : length done + 1 ≤ length items = part-few items done rest more item epoch place next tx outs old new part is in
-      outcomes-more config epoch place items map outs (outcome_of tx end) outcomes (omega (arith, part.all, few)) (outcome-is items done rest more item t epoch place next tx end outs old new map part is these ended)
-
   list-next : (list : List MonitorRecord) (outs : List Outcome) (outcome : Outcome) → (list ++ records_left outs) ++ record_of_end outcome.tx outcome.end ∷ [] ≡ list ++ records_left (outs ++ outcome ∷ [])
   list-next list outs outcome = append_assoc list (records_left outs) (record_of_end outcome.tx outcome.end ∷ []) ∙ ap (λ xs. list ++ xs) (sym (records_left-more outs outcome))
-
-  map-next : (items done rest more : List Item) (item : Item) (t : Transaction) (epoch place next : ℕ) (tx : Transid) (end : AttemptEnd) (outs old new : List Outcome) (map : RecordMap) → IsPart items done rest epoch place next tx outs old new
-      → rest ≡ item ∷ more → item ≡ TransactionItem t → IsValidTransaction config t
-      → map_of_end t end (map_left items epoch outs map) ≡ map_left items epoch (outs ++ outcome_of tx end ∷ []) map
-  map-next items done rest more item t epoch place next tx end outs old new map part is these valid =
-      sym (map_left-more items epoch outs (outcome_of tx end) t map
-      (ap (λ n. slice_get items n) part.all ∙ ap (λ xs. slice_get xs (length done)) (part.parts ∙ ap (λ xs. done ++ xs) is) ∙ get-next done more item ∙ ap Some these)
-      valid.attempts.above
-      (part.tx_is ∙ ap (λ n. first_attempt epoch (n + 1)) (sym part.all)))
 
   -- one item more is done
   pub running-more : (trails : Trails D) (behind : ℕ → ℕ) (memory : RecordMap) (list : List MonitorRecord) (map : RecordMap) (items done rest more : List Item) (item : Item) (t : Transaction) (epoch place next : ℕ) (tx : Transid) (end : AttemptEnd)
@@ -181,9 +192,9 @@ module _ {D : Type 0} (kind : disk.Ghosts D) (config : Config) (bases : Bases) w
       → HasItemDone kind config bases trails behind memory (list ++ records_left outs) (map_left items epoch outs map) epoch (length done) tx next t end
       → IsRunning kind config bases trails behind memory list map items epoch place (length (done ++ item ∷ [])) (outs ++ outcome_of tx end ∷ [])
   running-more trails behind memory list map items done rest more item t epoch place next tx end outs old new part is these valid outcomes has =
-      let after = map-next items done rest more item t epoch place next tx end outs old new map part is these valid in
+      let after = map-next config items done rest more item t epoch place next tx end outs old new map part is these valid in
       record {
-        outcomes = outcomes-next items done rest more item t epoch place next tx end outs old new map part is these outcomes has.ended;
+        outcomes = outcomes-next config items done rest more item t epoch place next tx end outs old new map part is these outcomes has.ended;
         standing = subst (λ n. TrailsCarry kind config bases trails behind (list ++ records_left (outs ++ outcome_of tx end ∷ [])) (map_left items epoch (outs ++ outcome_of tx end ∷ []) map) epoch n) (sym (length-one done item))
             (subst (λ l. TrailsCarry kind config bases trails behind l (map_left items epoch (outs ++ outcome_of tx end ∷ []) map) epoch (length done + 1)) (list-next list outs (outcome_of tx end))
             (subst (λ m. TrailsCarry kind config bases trails behind ((list ++ records_left outs) ++ record_of_end tx end ∷ []) m epoch (length done + 1)) after has.standing));
@@ -219,10 +230,10 @@ module _ {D : Type 0} (kind : disk.Ghosts D) (config : Config) (bases : Bases) w
         added = part.added;
         next = outcome ∷ [];
         few = omega arith;
-        outcomes = outcomes-next items done rest more item t epoch place next tx end outs old new map part is these outcomes ended.1;
+        outcomes = outcomes-next config items done rest more item t epoch place next tx end outs old new map part is these outcomes ended.1;
         stands = λ images left. ⊎_elim (λ before. inl before)
             (λ behind. inr (subst (λ l. StandsOver config bases images l (map_left items epoch (outs ++ outcome ∷ []) map)) (list-next list outs outcome)
-            (subst (StandsOver config bases images ((list ++ records_left outs) ++ record_of_end tx end ∷ [])) (map-next items done rest more item t epoch place next tx end outs old new map part is these valid) behind)))
+            (subst (StandsOver config bases images ((list ++ records_left outs) ++ record_of_end tx end ∷ [])) (map-next config items done rest more item t epoch place next tx end outs old new map part is these valid) behind)))
             (ended.2 images left);
       })
       stops

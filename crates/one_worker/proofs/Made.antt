@@ -7,6 +7,7 @@ use Rattle.std.proofs.lemmas.List.Elements.{All-weaker, recursion_from_All}
 use Rattle.disk_model.specs.Held.{Held}
 use Rattle.disk_model.specs.declared.disk.Disk as disk
 use Rattle.tmf_model.specs.declared.config.Config.{Config}
+use Rattle.tmf_model.specs.declared.config.FileLine.{FileLine}
 use Rattle.tmf_model.specs.declared.script.Step.{Step}
 use Rattle.tmf_model.specs.declared.script.Transaction.{Transaction}
 use Rattle.tmf_model.specs.declared.transid.Transid.{Transid}
@@ -36,6 +37,22 @@ use Rattle.one_worker.proofs.Agreeing.{AreKnown, agree-sym, agree-with, effect-a
 use Rattle.one_worker.proofs.Homes.{number-declared}
 use Rattle.one_worker.proofs.Settling.{standing-agree}
 use Rattle.one_worker.proofs.Standing.{gives-agree, gives-from_stands, stands-from_gives}
+
+-- an attempt ends so at memory's own map,
+pub ended-here : (files : List FileLine) (t : Transaction) (memory : RecordMap) (place : ℕ) (v : Verdict) (reads : List (ℕ × Option (List ℕ)))
+    → Ends files t memory v → (v ≡ verdict.Commits → AreReads t memory reads) → IsEnd files t memory place (end_of place v reads)
+ended-here files t memory place verdict.Commits reads ends are = (refl, ends, are refl)
+ended-here files t memory place verdict.Aborts reads ends are = ends
+ended-here files t memory place (verdict.Refused op reason) reads ends are = ends
+ended-here files t memory place (verdict.Full file key) reads ends are = ends
+
+-- and memory has what the end leaves of it
+pub left-here : (t : Transaction) (memory after : RecordMap) (place : ℕ) (v : Verdict) (reads : List (ℕ × Option (List ℕ)))
+    → (v ≡ verdict.Commits → after ≡ effect t memory) → (v ≢ verdict.Commits → after ≡ memory) → after ≡ map_of_end t (end_of place v reads) memory
+left-here t memory after place verdict.Commits reads done same = done refl
+left-here t memory after place verdict.Aborts reads done same = same (λ e. absurd (cc))
+left-here t memory after place (verdict.Refused op reason) reads done same = same (λ e. absurd (cc))
+left-here t memory after place (verdict.Full file key) reads done same = same (λ e. absurd (cc))
 
 module _ (config : Config) (bases : Bases) where
   known-from : (steps : List Step) → AllByRecursion (λ step. IsDeclared config.files step.file) steps → AllByRecursion (λ step. has_label config bases step.file ≡ true) steps → AreKnown config bases steps

@@ -75,6 +75,10 @@ pub if-any : {T E : Type 0} (result : Result T E) (P : E → Type 0) → ((e : E
 if-any (Ok value) P all = tt
 if-any (Err e) P all = all e
 
+pub if-all : {T E : Type 0} (result : Result T E) (P : T → Type 0) → ((x : T) → P x) → IfOk result P
+if-all (Ok value) P all = all value
+if-all (Err e) P all = tt
+
 pub if-ok : {T E : Type 0} (result : Result T E) (P Q : T → Type 0) → ((x : T) → P x → Q x) → IfOk result P → IfOk result Q
 if-ok (Ok value) P Q so holds = so value holds
 if-ok (Err e) P Q so holds = tt

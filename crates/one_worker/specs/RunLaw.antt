@@ -167,3 +167,9 @@ pub record AreAdded (items : List Item) (epoch place : ℕ) (old new : List Outc
   pub added : new ≡ old ++ done
   pub few : length done ≤ length items
   pub each : (number : ℕ) (outcome : Outcome) → slice_get done number ≡ Some outcome → (outcome.tx ≡ first_attempt epoch (number + 1)) × IsAt (place + number) outcome.end
+
+-- The outcomes of first items of a run are added, each as its item ends where the run begins at this map, whatever the devices hold.
+pub record AreAddedOn (config : Config) (epoch place : ℕ) (items : List Item) (map : RecordMap) (old new : List Outcome) : Type 0 where
+  pub done : List Outcome
+  pub added : new ≡ old ++ done
+  pub outcomes : AreOutcomes config epoch place items map done

@@ -7,6 +7,7 @@ ghost use Rattle.tmf_model.specs.Transid.{is_transid};
 ghost use Rattle.trail_files.specs.declared.monitor_record.MonitorRecord.{MonitorRecord};
 ghost use Rattle.one_worker.specs.Blocks.{map_in};
 ghost use Rattle.one_worker.specs.NodeRecords.{Bases, SameRecords, has_label};
+ghost use Rattle.one_worker.specs.Outcome.{IsEnd, map_of_end};
 ghost use Rattle.one_worker.specs.Positions.{HasPositions, next_of};
 ghost use Rattle.one_worker.specs.BetweenItems.{HasItemDone, LeavesForNext, TrailsCarry, TrailsStand, StopsIn};
 ghost use Rattle.one_worker.specs.Stop.{HasStopCause};
@@ -49,6 +50,8 @@ pub fn run_item<D: Disk>(
     // Unless the monitor trail's device has failed, nothing of the item stands.
     ensures unwritten { (bases : Bases) (list : List MonitorRecord) (map : RecordMap) (epoch count : ℕ) → TrailsCarry D.Disk config.now bases trails.old (next_of positions.old) list map epoch count
         → SameRecords config.now bases (map_in blocks.old) map → All (λ step. has_label config.now bases step.file ≡ true) transaction.now.steps → tx.epoch ≡ epoch → tx.ordinal ≡ count + 1 → (stop : Stop) → result ≡ Err stop → stop ≢ Stop.Failed 0 → TrailsStand D.Disk config.now bases trails.new list map }
+    // Memory alone says how the item ends, and has what that leaves.
+    ensures memory { IfOk result (λ end. IsEnd config.now.files transaction.now (map_in blocks.old) place end × (map_in blocks.new ≡ map_of_end transaction.now end (map_in blocks.old))) }
     ensures at { IfOk result (IsAt place) }
     ensures files { blocks.new.files ≡ blocks.old.files }
     ensures frame { LeavesForNext D.Disk trails.old trails.new positions.old positions.new result }

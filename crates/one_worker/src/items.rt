@@ -14,7 +14,7 @@ ghost use Rattle.one_worker.specs.BetweenItems.{HasRunOn, HasStoppedOn, TrailsCa
 ghost use Rattle.trail_replay.specs.Stop.{IsUndamagedStop};
 ghost use Rattle.one_worker.specs.Stop.{in_flight};
 ghost use Rattle.trail_replay.specs.Trails.{AllKeep, AreReady, AreRuled, AreWritable, RoseOn};
-ghost use Rattle.one_worker.specs.RunLaw.{AreAdded, IsTransaction};
+ghost use Rattle.one_worker.specs.RunLaw.{AreAdded, AreAddedOn, IsTransaction};
 
 use crate::blocks::Blocks;
 use crate::item::run_item;
@@ -66,6 +66,8 @@ pub fn run_items<D: Disk>(
         → SameRecords config.now bases (map_in blocks.old) map → AreKnownItems config.now bases items.now → place ≡ length list + 1
         → IfErr result (λ stop. HasStoppedOn D.Disk config.now bases trails.new list map items.now epoch place (in_flight stop) outcomes.old.items outcomes.new.items) }
     ensures added { AreAdded items.now epoch place outcomes.old.items outcomes.new.items }
+    // Memory alone says what the items come to.
+    ensures outcomes { AreAddedOn config.now epoch place items.now (map_in blocks.old) outcomes.old.items outcomes.new.items }
     ensures all { OnOk result (length outcomes.new.items ≡ length outcomes.old.items + length items.now) }
     ensures kept { AllKeep D.Disk trails.old trails.new }
     ensures undamaged { IfErr result IsUndamagedStop }

@@ -13,7 +13,7 @@ ghost use Rattle.one_worker.specs.Positions.{next_of};
 ghost use Rattle.one_worker.specs.Stop.{BeginsNoRun, IsExplained, IsRefusal, IsUndamagedRun, run_in_flight};
 ghost use Rattle.trail_replay.specs.Trails.{AllHoldSame, AllKeep, AreReadAs, AreReady, AreRuled, AreWritable, RoseOn};
 ghost use Rattle.trail_replay.specs.Texts.{AllSpell, TrailsSpell};
-ghost use Rattle.one_worker.specs.RunLaw.{AreAdded, DoesNothing, HasRun, HasRunCause, HasStopped, IsRunCause, IsTransaction, IsUp, KeepsNode, MayRun, bases_of};
+ghost use Rattle.one_worker.specs.RunLaw.{AreAdded, AreAddedOn, DoesNothing, HasRun, HasRunCause, HasStopped, IsRunCause, IsTransaction, IsUp, KeepsNode, MayRun, bases_of};
 ghost use Rattle.trail_replay.specs.Opening.{KeepsDevices};
 ghost use Rattle.disk_model.specs.Devices.{DevicesTell, HoldSame, RoseAt, held_at};
 
@@ -54,6 +54,8 @@ fn run_trails<D: Disk>(
         → MatchResult result (λ _. HasRunOn D.Disk config.now bases trails.new list map items.now epoch place outcomes.old.items outcomes.new.items)
         (λ error. HasStoppedOn D.Disk config.now bases trails.new list map items.now epoch place (run_in_flight error) outcomes.old.items outcomes.new.items) }
     ensures added { AreAdded items.now epoch place outcomes.old.items outcomes.new.items × OnOk result (length outcomes.new.items ≡ length outcomes.old.items + length items.now) }
+    // Memory alone says what the items come to.
+    ensures outcomes { IfOk volumes (λ loaded. AreAddedOn config.now epoch place items.now (map_in loaded.blocks) outcomes.old.items outcomes.new.items) }
     ensures explained { (audit : ℕ → List AuditRecord) (list : List MonitorRecord) → AreReadAs D.Disk trails.old audit list
         → MatchResult volumes
         (λ loaded. MatchResult result (λ _. ¬ BeginsNoRun config.now (next_of loaded.positions) audit) (IsExplained config.now (next_of loaded.positions) audit))
@@ -109,6 +111,7 @@ fn run_fuses<D: Disk>(
         → MatchResult result.0 (λ _. HasRun D.held config.now result.1.items list map items.now epoch place outcomes.old.items outcomes.new.items)
         (λ error. HasStopped D.held config.now result.1.items list map items.now epoch place (run_in_flight error) outcomes.old.items outcomes.new.items) }
     ensures added { AreAdded items.now epoch place outcomes.old.items outcomes.new.items × OnOk result.0 (length outcomes.new.items ≡ length outcomes.old.items + length items.now) }
+    ensures outcomes { IfOk volumes (λ loaded. AreAddedOn config.now epoch place items.now (map_in loaded.blocks) outcomes.old.items outcomes.new.items) }
     ensures explained { DevicesTell D.tells fuses.items → AreTold config.now (held_at D.held fuses.items) items.now volumes
         → MatchResult result.0 (λ _. MayRun config.now (held_at D.held fuses.items) items.now) (IsRunCause config.now (held_at D.held fuses.items) items.now) }
     ensures enough { (audit : ℕ → List AuditRecord) (list : List MonitorRecord) → DevicesTell D.tells fuses.items → TrailsSpell config.now (held_at D.held fuses.items) audit list
@@ -166,6 +169,8 @@ pub fn run_worker<D: Disk>(
         → MatchResult result.0 (λ _. HasRun D.held config.now result.1 list map items.now epoch place outcomes.old.items outcomes.new.items)
         (λ error. HasStopped D.held config.now result.1 list map items.now epoch place (run_in_flight error) outcomes.old.items outcomes.new.items) }
     ensures added { AreAdded items.now epoch place outcomes.old.items outcomes.new.items × OnOk result.0 (length outcomes.new.items ≡ length outcomes.old.items + length items.now) }
+    // Whatever the devices hold, the outcomes that were added are those of first items of a run that begins at some map; of a node that is up `runs` says so of its own map.
+    ensures outcomes { (map : RecordMap) × AreAddedOn config.now epoch place items.now map outcomes.old.items outcomes.new.items }
     // Whether the devices rest or not: damage is told of the first trail whose text is broken, or else of the first file that is damaged on its volume; a disc that is called spent is so
     // by what labels and trails spell, and a volume that is called lost has no label. No run is whole over a broken text, a damaged file, a spent disc, or a lost volume that is named.
     ensures cause { HasRunCause D.Disk config.now bay result.1 items.now epoch result.0 }

@@ -1,12 +1,13 @@
 use Rattle.std.specs.Prelude.{All, Err}
-use Rattle.std.proofs.Common.{inl, ap, sym, subst, ◌∙◌}
+use Rattle.std.proofs.Common.{◌≡◌, inl, ap, sym, subst, ◌∙◌}
 use Rattle.std.proofs.lemmas.Result.{err_from_is_err_and}
 use Rattle.one_worker.specs.Attempt.{Ends}
 use Rattle.one_worker.specs.Blocks.{HaveRoom, map_in}
 use Rattle.one_worker.specs.Change.{IsChange}
 use Rattle.one_worker.specs.NodeRecords.{AreLabelled, has_label}
+use Rattle.one_worker.specs.Outcome.{IsEnd, map_of_end}
 use Rattle.one_worker.specs.Positions.{next_of}
-use Rattle.one_worker.proofs.Made.{WasMade, item-done, item-stopped, room-after, steps-known, tell-agree}
+use Rattle.one_worker.proofs.Made.{WasMade, ended-here, item-done, item-stopped, left-here, room-after, steps-known, tell-agree}
 use Rattle.one_worker.proofs.Settling.{standing-left}
 use Rattle.trail_replay.proofs.Stops.{err-value}
 use Rattle.one_worker.proofs.item.run_item.Goals as goal
@@ -85,3 +86,16 @@ returns-clause-ends g c = λ bases list map epoch count is agree labels own ordi
     item-done config bases g.D.Disk t memory after map attempt.verdict attempt.reads.items changes made agree c.settle.new.trails (next_of c.settle.new.positions) list epoch count c.args.tx c.args.place c.end_of.result c.end_of.ensures
     (c.in_ok-settle.ensures.settled bases list map epoch count is named own ordinal short (tell-agree config bases changes memory map each named agree ensured.changes.tell)
     (room-after config bases g.D.Disk t memory after map attempt.verdict attempt.reads.items changes made agree room is.gives.room))
+
+pub returns-clause-memory : goal.returns-clause-memory
+returns-clause-memory g c =
+    let files = c.args.config.now.files in
+    let t = c.args.transaction.now in
+    let memory = map_in c.args.blocks.now in
+    let after = map_in c.attempt.new.self in
+    let attempt = c.in_ok-attempt.attempt in
+    let makes = c.in_ok-attempt.ensures.makes in
+    subst (λ end. IsEnd files t memory c.args.place end × (after ≡ map_of_end t end memory)) (sym c.end_of.ensures) (
+      ended-here files t memory c.args.place attempt.verdict attempt.reads.items (subst (λ lines. Ends lines t memory attempt.verdict) c.requires.files makes.ends) makes.reads,
+      left-here t memory after c.args.place attempt.verdict attempt.reads.items makes.done makes.same,
+    )

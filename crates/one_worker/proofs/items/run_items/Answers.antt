@@ -3,14 +3,14 @@ use Rattle.std.specs.List.{AllByRecursion}
 use Rattle.std.proofs.Common.{◌≡◌, ◌+◌, ◌*◌, ◌++◌, ◌∷◌, [], arith, append-nil, length-append, rules, refl, sym, ap, subst, ◌∙◌}
 use Rattle.std.proofs.lemmas.Result.{err_from_is_err_and}
 use Rattle.one_worker.specs.Blocks.{map_in}
-use Rattle.one_worker.specs.Outcome.{first_attempt, records_left, map_left}
+use Rattle.one_worker.specs.Outcome.{IsEnd, first_attempt, records_left, map_left, map_of_end}
 use Rattle.one_worker.specs.Positions.{next_of}
 use Rattle.one_worker.specs.BetweenItems.{TrailsStand}
 use Rattle.one_worker.specs.RunLaw.{IsTransaction}
 use Rattle.one_worker.specs.Stop.{in_flight}
 use Rattle.one_worker.proofs.Outcomes.{outcomes-none}
 use Rattle.one_worker.proofs.Keeping.{keep-itself, keep-ruled, keep-then, keep-writable, rose-then}
-use Rattle.one_worker.proofs.Looping.{IsPart, known-next, labels-of, length-one, next-place, none-next, outcome_of, part-first, part-more, positions-few, running-all, running-between, running-first, running-more, running-stopped, valid-transaction}
+use Rattle.one_worker.proofs.Looping.{IsPart, added-none, known-next, labels-of, length-one, map-next, next-place, none-next, outcome_of, outcomes-next, part-first, part-more, positions-few, running-all, running-between, running-first, running-more, running-stopped, valid-transaction}
 use Rattle.one_worker.proofs.Settling.{standing-left}
 use Rattle.trail_replay.proofs.Stops.{err-value}
 use Rattle.one_worker.proofs.Stops.{if-any}
@@ -33,6 +33,8 @@ loop-item-init g c = (
     ruled = c.requires.ruled;
     files = c.requires.files;
     positions = c.requires.positions;
+    outcomes = outcomes-none c.args.config.now c.args.epoch c.args.place c.args.items.now (map_in c.args.blocks.now);
+    left = refl;
     told = λ bases list map standing agree known first.
         (running-first g.D.Disk c.args.config.now bases c.args.trails.now (next_of c.args.positions.now) (map_in c.args.blocks.now) list map c.args.items.now c.args.epoch c.args.place standing agree);
   },
@@ -103,6 +105,8 @@ loop-item-preserved g c =
     let is = c.in-Some.ensures.cases.0 in
     let all = subst (AllByRecursion (IsTransaction config)) is inv.valid in
     let valid = valid-transaction config item t c.transaction_of-transaction.ensures all.0 in
+    let these = c.transaction_of-transaction.ensures in
+    let first_map = map_in c.args.blocks.now in
     let longer = length-one done item in
     let fewer = ap length is in (
       done ++ item ∷ [],
@@ -120,6 +124,10 @@ loop-item-preserved g c =
         ruled = keep-ruled kind config loop.trails c.run_item.new.trails c.run_item.ensures.frame.kept inv.ruled;
         files = c.run_item.ensures.files ∙ inv.files;
         positions = c.in_ok-end.ensures.frame.positions (64 * length more) (positions-few loop.positions (64 * length loop.rest.now) (64 + 64 * length more) (omega (arith, fewer)) inv.positions);
+        outcomes = outcomes-next config items done loop.rest.now more item t c.args.epoch c.args.place loop.next loop.tx c.in_ok-end.end outs c.args.outcomes.now.items loop.outcomes.items first_map inv.part is these inv.outcomes
+            (subst (λ m. IsEnd config.files t m loop.next c.in_ok-end.end) inv.left c.in_ok-end.ensures.memory.0);
+        left = c.in_ok-end.ensures.memory.1 ∙ ap (map_of_end t c.in_ok-end.end) inv.left
+            ∙ map-next config items done loop.rest.now more item t c.args.epoch c.args.place loop.next loop.tx c.in_ok-end.end outs c.args.outcomes.now.items loop.outcomes.items first_map inv.part is these valid;
         told = λ bases list map standing agree known first.
             let running = inv.told bases list map standing agree known first in
             let place = next-place kind config bases items done loop.rest.now more item c.args.epoch c.args.place loop.next loop.tx outs c.args.outcomes.now.items loop.outcomes.items list inv.part is first c.requires.places in
@@ -142,3 +150,13 @@ returns-clause-ran g c = λ bases list map standing agree known first.
     running-all kind config bases loop.trails list map c.args.items.now done loop.rest.now c.args.epoch c.args.place loop.next loop.tx outs c.args.outcomes.now.items loop.outcomes.items inv.part none running.outcomes
     (standing-left kind config bases
     c.every_image.ensures.images c.every_image-2.ensures.images loop.trails (next_of loop.positions) _ _ c.args.epoch (length done) inv.ruled running.standing)
+
+pub returns-in_err-reserve-clause-outcomes : goal.returns-in_err-reserve-clause-outcomes
+returns-in_err-reserve-clause-outcomes g c =
+    added-none c.args.config.now c.args.epoch c.args.place c.args.items.now (map_in c.args.blocks.now) c.args.outcomes.now.items c.reserve.new.self.items c.reserve.ensures.items
+
+pub returns-in_err-end-clause-outcomes : goal.returns-in_err-end-clause-outcomes
+returns-in_err-end-clause-outcomes g c = let inv = c.loop-item.invariant.2 in record { done = c.loop-item.invariant.1; added = inv.part.added; outcomes = inv.outcomes }
+
+pub returns-clause-outcomes : goal.returns-clause-outcomes
+returns-clause-outcomes g c = let inv = c.loop-item.invariant.2 in record { done = c.loop-item.invariant.1; added = inv.part.added; outcomes = inv.outcomes }

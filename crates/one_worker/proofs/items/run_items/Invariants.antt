@@ -8,6 +8,7 @@ use Rattle.one_worker.specs.declared.outcome.Outcome.{Outcome}
 use Rattle.one_worker.specs.Blocks.{map_in}
 use Rattle.one_worker.specs.NodeRecords.{Bases, SameRecords}
 use Rattle.one_worker.specs.Loading.{AreKnownItems}
+use Rattle.one_worker.specs.Outcome.{AreOutcomes, map_left}
 use Rattle.one_worker.specs.Positions.{HasPositions, next_of}
 use Rattle.one_worker.specs.BetweenItems.{TrailsCarry}
 use Rattle.trail_replay.specs.Trails.{AllKeep, AreReady, AreRuled}
@@ -28,6 +29,8 @@ invariant-loop-item g l = (done : List Item) × (outs : List Outcome) × record 
   ruled : AreRuled l.fn.config l.trails;
   files : l.blocks.files ≡ l.fn.config.files;
   positions : HasPositions l.positions (64 * length l.rest);
+  outcomes : AreOutcomes l.fn.config l.fn.epoch l.fn.place l.fn.items (map_in l.fn.blocks) outs;
+  left : map_in l.blocks ≡ map_left l.fn.items l.fn.epoch outs (map_in l.fn.blocks);
   told : (bases : Bases) (list : List MonitorRecord) (map : RecordMap) → TrailsCarry g.D.Disk l.fn.config bases l.fn.trails (next_of l.fn.positions) list map l.fn.epoch 0
       → SameRecords l.fn.config bases (map_in l.fn.blocks) map → AreKnownItems l.fn.config bases l.fn.items → l.fn.place ≡ length list + 1
       → IsRunning g.D.Disk l.fn.config bases l.trails (next_of l.positions) (map_in l.blocks) list map l.fn.items l.fn.epoch l.fn.place (length done) outs;

@@ -8,14 +8,16 @@ use Rattle.trail_replay.specs.declared.stop.Stop.TheVariants.{Failed}
 use Rattle.trail_replay.specs.Stop.{IsUndamagedStop}
 use Rattle.one_worker.specs.Stop.{in_flight, run_in_flight}
 use Rattle.trail_replay.specs.Opening.{AreOpenedOver, AreRereadTo, devices_left, in_fuse, KeepsDevices}
+use Rattle.one_worker.specs.Blocks.{map_in}
 use Rattle.one_worker.specs.RunLaw.{IsUp, bases_of}
 use Rattle.one_worker.proofs.Beginning.{ran-left, run-cause, run-undamaged, spell-have, stop-cause, stopped-left, up-begins, up-says}
 use Rattle.trail_replay.proofs.Closing.{left-held, left-later, left-rose, same-left}
 use Rattle.one_worker.proofs.Fuses.{held-same, hold-then, same-then}
+use Rattle.one_worker.proofs.Looping.{added-none}
 use Rattle.one_worker.proofs.Resting.{AreResting, say-left, stopped-none}
 use Rattle.volume_recovery.proofs.RestingNode.{dump_images, volume_images}
 use Rattle.trail_replay.proofs.Stops.{err-value}
-use Rattle.one_worker.proofs.Stops.{if-any, if-err, stopped-failed}
+use Rattle.one_worker.proofs.Stops.{if-all, if-any, if-err, stopped-failed}
 use Rattle.one_worker.proofs.run.run_fuses.Goals as goal
 
 pub returns-in-Err-clause-runs : goal.returns-in-Err-clause-runs
@@ -204,3 +206,6 @@ returns-in-Ok-clause-unread g c =
       holds.1,
     ))
     c.run_trails-ran.ensures.unread
+
+pub returns-in-Err-clause-outcomes : goal.returns-in-Err-clause-outcomes
+returns-in-Err-clause-outcomes g c = if-all c.args.volumes _ (λ loaded. added-none c.args.config.now c.args.epoch c.args.place c.args.items.now (map_in loaded.blocks) c.args.outcomes.now.items c.args.outcomes.now.items refl)

@@ -1,10 +1,12 @@
 use Rattle.std.specs.Prelude.{Err}
 use Rattle.std.proofs.Common.{inl, inr, refl, rules, sym, ap, ◌∙◌}
 use Rattle.std.proofs.lemmas.Result.{err_from_is_err_and}
+use Rattle.one_worker.specs.Blocks.{map_in}
 use Rattle.one_worker.specs.Stop.{run_in_flight}
 use Rattle.one_worker.proofs.Keeping.{keep-ruled, keep-then, keep-writable, rose-then}
-use Rattle.one_worker.proofs.Beginning.{begins-again, fewer-positions, if-value, match-ok, stopped-first}
-use Rattle.one_worker.proofs.Stops.{err-none, if-any, undamaged-unrefused}
+use Rattle.one_worker.proofs.Beginning.{begins-again, fewer-positions, if-value, match-ok, stopped-first, value-if}
+use Rattle.one_worker.proofs.Looping.{added-none}
+use Rattle.one_worker.proofs.Stops.{err-none, if-all, if-any, undamaged-unrefused}
 use Rattle.one_worker.proofs.run.run_trails.Goals as goal
 
 pub returns-in_err-loaded-clause-runs : goal.returns-in_err-loaded-clause-runs
@@ -95,3 +97,15 @@ returns-in_err-run_items-clause-unread g c = err-none c.args.volumes c.in_ok-loa
 
 pub returns-clause-unread : goal.returns-clause-unread
 returns-clause-unread g c = err-none c.args.volumes c.in_ok-loaded.loaded _ c.in_ok-loaded.was
+
+pub returns-in_err-loaded-clause-outcomes : goal.returns-in_err-loaded-clause-outcomes
+returns-in_err-loaded-clause-outcomes g c = if-all c.args.volumes _ (λ loaded. added-none c.args.config.now c.args.epoch c.args.place c.args.items.now (map_in loaded.blocks) c.args.outcomes.now.items c.args.outcomes.now.items refl)
+
+pub returns-in_err-load_positions-clause-outcomes : goal.returns-in_err-load_positions-clause-outcomes
+returns-in_err-load_positions-clause-outcomes g c = if-all c.args.volumes _ (λ loaded. added-none c.args.config.now c.args.epoch c.args.place c.args.items.now (map_in loaded.blocks) c.args.outcomes.now.items c.args.outcomes.now.items refl)
+
+pub returns-in_err-run_items-clause-outcomes : goal.returns-in_err-run_items-clause-outcomes
+returns-in_err-run_items-clause-outcomes g c = value-if c.args.volumes c.in_ok-loaded.loaded _ c.in_ok-loaded.was c.run_items.ensures.outcomes
+
+pub returns-clause-outcomes : goal.returns-clause-outcomes
+returns-clause-outcomes g c = value-if c.args.volumes c.in_ok-loaded.loaded _ c.in_ok-loaded.was c.run_items.ensures.outcomes

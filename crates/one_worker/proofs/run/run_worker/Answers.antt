@@ -3,6 +3,8 @@ use Rattle.std.proofs.Common.{inl, inr, ⊎_elim, ◌≡◌, ◌+◌, rules, ari
 use Rattle.disk_model.specs.Devices.{DevicesTell, HoldSame, RoseAt, held_at}
 use Rattle.disk_model.proofs.Devices.{are-later-same, are-later-then, rose-after, tell-then}
 use Rattle.disk_model.proofs.Devices.{held-same as hold-itself, held-then}
+use Rattle.tmf_model.specs.RecordMap.{empty_map}
+use Rattle.one_worker.specs.Blocks.{map_in}
 use Rattle.one_worker.specs.Loading.{AreTold}
 use Rattle.trail_replay.specs.Texts.{AllSpell, TrailsSpell}
 use Rattle.one_worker.specs.RunLaw.{HasRun, HasStopped, IsRunCause, IsUp, KeepsNode, MayRun}
@@ -10,6 +12,7 @@ use Rattle.trail_replay.specs.Opening.{KeepsDevices}
 use Rattle.one_worker.specs.Stop.{run_in_flight}
 use Rattle.one_worker.proofs.Fuses.{held-same}
 use Rattle.one_worker.proofs.Kept.{barred-loaded, keeps-all, later-rose, readable-undamaged}
+use Rattle.one_worker.proofs.Looping.{added-none, added-on}
 use Rattle.one_worker.proofs.Resting.{stopped-none}
 use Rattle.volume_recovery.proofs.RestingNode.{dump_images, volume_images}
 use Rattle.one_worker.proofs.Stops.{if-err}
@@ -141,3 +144,11 @@ returns-clause-keeps g c =
     subst (KeepsNode g.D.Disk c.args.config.now c.args.bay) (sym c.from_fuses.ensures)
     (keeps-all g.D.Disk g.met.D.Disk.same_on c.args.config.now c.args.bay mid c.run_fuses-ran.result.1.items volumes.keeps volumes.same volumes.others
     (subst (λ l. KeepsDevices g.D.Disk count l c.run_fuses-ran.result.1.items) c.into_fuses.ensures.fuses c.run_fuses-ran.ensures.keeps))
+
+pub returns-then-epoch-eq0-clause-outcomes : goal.returns-then-epoch-eq0-clause-outcomes
+returns-then-epoch-eq0-clause-outcomes g c = (empty_map, added-none c.args.config.now c.args.epoch c.args.place c.args.items.now empty_map c.args.outcomes.now.items c.args.outcomes.now.items refl)
+
+pub returns-clause-outcomes : goal.returns-clause-outcomes
+returns-clause-outcomes g c =
+    added-on c.load_volumes-volumes.result c.args.config.now c.args.epoch c.args.place c.args.items.now (λ loaded. map_in loaded.blocks) c.args.outcomes.now.items c.run_fuses-ran.new.outcomes.items _
+    c.run_fuses-ran.ensures.outcomes c.run_fuses-ran.ensures.unread
