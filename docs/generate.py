@@ -96,6 +96,8 @@ def index():
 # The definitions that clauses cite.
 
 DEFINITION = re.compile(r"^(?:abbrev |opaque |unfoldable )*pub (?:abbrev |opaque |unfoldable )*(?:record |data )?([^\s:({]+)")
+# one that stands under a module's parameters; what is indented otherwise is a field
+INNER = re.compile(r"^  (?:(?:abbrev |opaque |unfoldable )+pub |pub (?:record |data ))([^\s:({]+)")
 
 
 def definitions_of(crate):
@@ -104,9 +106,9 @@ def definitions_of(crate):
     for path in sorted((ROOT / "crates" / crate / "specs").rglob("*.antt")):
         said = []
         for line in path.read_text().splitlines():
-            match = DEFINITION.match(line)
-            if line.startswith("-- "):
-                said.append(line[3:].strip())
+            match = DEFINITION.match(line) or INNER.match(line)
+            if re.match(r"(  )?-- ", line):
+                said.append(line.strip()[3:].strip())
                 continue
             if match and match[1] not in ("mod", "use") and path.name != "Lib.antt":
                 found.append((match[1], " ".join(said), path.relative_to(ROOT / "crates" / crate)))

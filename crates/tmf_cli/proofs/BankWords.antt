@@ -2,11 +2,16 @@
 use Rattle.std.specs.Prelude.{Option, Some, None, bytes_eq, codes, is_some, if◌then◌else◌}
 use Rattle.std.proofs.Common.{◌≡◌, ◌≢◌, ◌&&◌, ◌||◌, ◌∷◌, [], ℕ, Bool, List, true, false, refl, sym, ap, subst, ◌∙◌}
 use Rattle.std.proofs.lemmas.Slice.Eq.{bytes_eq-Decides}
+use Rattle.tmf_words.specs.Asked.{asked_for, asked_of}
+use Rattle.tmf_words.specs.declared.asked.Asked.TheVariants.{Bank}
 use Rattle.tmf_words.specs.Words.{are_accepted, bank_of, is_run, number_first, number_of_first}
 
--- words have one number of transfers, or none
-pub other-bank : (words : List (List ℕ)) (transfers : ℕ) → bank_of words ≡ None → bank_of words ≢ Some transfers
-other-bank words transfers none some = absurd (cc)
+-- words that are read as asking for a bank run ask for one
+pub asked-bank : (words : List (List ℕ)) (transfers : ℕ) → asked_of words ≡ Bank transfers → bank_of words ≡ Some transfers
+asked-bank words transfers is = of (bank_of words) is where
+  of : (o : Option ℕ) → asked_for o ≡ Bank transfers → o ≡ Some transfers
+  of None is = absurd (cc)
+  of (Some other) is = let same : other ≡ transfers = cc in ap Some same
 
 first-of : (a b : Bool) → (a && b) ≡ true → a ≡ true
 first-of true b both = refl

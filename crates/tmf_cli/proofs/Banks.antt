@@ -1,7 +1,6 @@
 -- A script's actions whose lines are collected, and the bank's, of which five lines tell what they came to.
 use Rattle.std.specs.Prelude.{Option, None}
-use Rattle.std.specs.List.{AllByRecursion}
-use Rattle.std.proofs.Common.{◌≡◌, ◌≢◌, ◌⊎◌, ◌≤◌, ◌++◌, ◌∷◌, [], ℕ, List, length, refl, sym, ap, subst, ◌∙◌, inl, inr, ⊎_elim, arith}
+use Rattle.std.proofs.Common.{◌≡◌, ◌≢◌, ◌⊎◌, ◌≤◌, ◌++◌, ◌∷◌, [], ℕ, List, IsTrue, length, refl, sym, ap, subst, ◌∙◌, inl, inr, ⊎_elim, arith}
 use Rattle.disk_model.specs.Devices.{FuseRestarts}
 use Rattle.disk_model.specs.Held.{Held}
 use Rattle.disk_model.specs.declared.disk.Disk as disk
@@ -9,11 +8,9 @@ use Rattle.disk_model.specs.declared.fuse.Fuse.{Fuse}
 use Rattle.run_outcomes.specs.Devices.{devices}
 use Rattle.trail_replay.specs.declared.stop.Stop.TheVariants as stop
 use Rattle.tmf_edges.specs.Moves.{AppendsPart}
+use Rattle.tmf_edges.specs.declared.sink.Sink as sink
 use Rattle.tmf_model.specs.declared.config.Config.{Config}
-use Rattle.one_worker.specs.declared.stop.RunError.{RunError}
-use Rattle.one_worker.specs.declared.stop.RunError.TheVariants.{Stopped as DeviceStopped}
 use Rattle.tmf_model.specs.declared.script.Action.{Action}
-use Rattle.tmf_model.specs.declared.script.Action.TheVariants.{Run}
 use Rattle.tmf_model.specs.declared.script.Phase.{Phase}
 use Rattle.tmf_model.specs.declared.script.Script.{Script}
 use Rattle.tmf_script.specs.Bank.{bank_phase, bank_script}
@@ -25,24 +22,24 @@ use Rattle.tmf_cli.specs.declared.status.ScriptEnd.{ScriptEnd}
 use Rattle.tmf_cli.specs.declared.status.ScriptEnd.TheVariants.{GiveFault, Stopped}
 use Rattle.tmf_cli.specs.declared.status.Status.{Status}
 use Rattle.tmf_cli.specs.declared.status.Status.TheVariants as status
-use Rattle.tmf_cli.specs.ActionGiven.{EndsAction, EndsScript}
-use Rattle.tmf_cli.specs.Bank.{CollectsAll, GivesSummary, HasCollected, IsSummed, TellsBank, end_status}
+use Rattle.tmf_cli.specs.ActionGiven.{EndsAction, EndsScript, KeepsSink}
+use Rattle.tmf_cli.specs.Bank.{AnswersBank, CollectsAll, GivesSummary, HasCollected, IsSummed, TellsBank, end_status}
 use Rattle.tmf_cli.specs.BetweenActions.{HasDone, Knows, LeavesBay, OthersRestarted, node_of}
 use Rattle.tmf_cli.specs.Call.{KeepsBay}
 use Rattle.tmf_cli.specs.Countdown.{IsOff, KeepsCounts, NoneCut, NoneKilled, OnceSwitched, kill_of}
-use Rattle.tmf_cli.specs.Ending.{EndsAtDevice, EndsWhole, opening}
+use Rattle.tmf_cli.specs.Ending.{EndsWhole, opening}
 use Rattle.tmf_cli.specs.Headline.{KeepsEveryCommit}
-use Rattle.tmf_cli.specs.OutputLaw.{Breaks, Candidate, MayStand, Node, ToldBy}
-use Rattle.tmf_cli.specs.Single.{IsSingle}
+use Rattle.tmf_cli.specs.OutputLaw.{Candidate, MayStand, Node, ToldBy}
+use Rattle.tmf_cli.specs.Single.{IsSingle, NoneSingle}
 use Rattle.tmf_cli.specs.Status.{code_of}
 use Rattle.tmf_cli.specs.Top.{Tells}
-use Rattle.tmf_cli.proofs.Countdowns.{once-so}
+use Rattle.tmf_cli.proofs.Countdowns.{once-so, switched-cuts, switches-same}
 use Rattle.tmf_cli.proofs.Endings.{tells-not-said, tells-stopped}
 use Rattle.tmf_cli.proofs.FaultlessLines.{faultless}
 use Rattle.tmf_cli.proofs.Openings.{bay-keeps, bay-off, bay-uncut}
-use Rattle.tmf_cli.proofs.Playing.{Running, running-begin, running-more}
+use Rattle.tmf_cli.proofs.Playing.{Running, others-none, running-begin, running-more}
 use Rattle.tmf_cli.proofs.Promises.{promised, promised-whole}
-use Rattle.tmf_cli.proofs.Statuses.{code-done, code-sink, code-stopped}
+use Rattle.tmf_cli.proofs.Statuses.{code-done, code-sink}
 
 module _ {D : Type 0} (held : D → Held) (faults : D → ℕ) (config : Config) where
   -- no memory was found for the lines of an action that was done
@@ -133,37 +130,13 @@ none-left (x ∷ xs) none = absurd (omega (arith, none))
 
 -- WHAT NO DEVICE ENDS
 
--- the action is no single run
-abbrev IsUnsingle : Config → Action → Type 0
-IsUnsingle config action = (phase : Phase) → action ≡ Run phase → ¬ IsSingle config phase
-
-unsingle-at : (config : Config) (front rest : List Action) (action : Action) → AllByRecursion (IsUnsingle config) (front ++ action ∷ rest) → IsUnsingle config action
-unsingle-at config [] rest action all = all.0
-unsingle-at config (x ∷ front) rest action all = unsingle-at config front rest action all.1
-
 -- the bank's run has four workers
 many-workers : (transfers : ℕ) (phase : Phase) → bank_phase transfers ≡ phase → ¬ IsSingle (bank_script transfers).config phase
 many-workers transfers phase is single = let few : 4 ≤ 1 = subst (λ p. length p.workers ≤ 1) (sym is) single.few in absurd (omega (arith, few))
 
-bank-unsingle : (transfers : ℕ) → AllByRecursion (IsUnsingle (bank_script transfers).config) (bank_script transfers).actions
+-- so no run of its script is single
+pub bank-unsingle : (transfers : ℕ) → NoneSingle (bank_script transfers).config (bank_script transfers).actions
 bank-unsingle transfers = (λ phase e. absurd (cc), ((λ phase e. many-workers transfers phase (cc)), (λ phase e. absurd (cc), (λ phase e. absurd (cc), (λ phase e. absurd (cc), tt)))))
-
-module _ {D : Type 0} (held : D → Held) (faults : D → ℕ) (config : Config) where
-  -- a run that is not single ends the script for want of memory alone
-  breaks-memory : (phase : Phase) (why : RunError) (node after : Node) (old new : List (Fuse D)) (lines : List Line) → ¬ IsSingle config phase → Breaks held faults config why (Run phase) node old lines after new → why ≡ DeviceStopped stop.NoMemory
-  breaks-memory phase why node after old new lines many (inl down) = down.0
-  breaks-memory phase why node after old new lines many (inr (inl single)) = absurd (many single.0)
-  breaks-memory phase why node after old new lines many (inr (inr threads)) = threads.1
-
-  -- so no device ends one of which no run is single
-  pub none-stopped : (node : Node) (actions : List Action) (old new : List (Fuse D)) (sink : Type 0) (before after : List ℕ) → AllByRecursion (IsUnsingle config) actions → ¬ EndsAtDevice held faults config node actions old new sink before after
-  none-stopped node actions old new sink before after all ends =
-      let at = ends.reaches in
-      let run = ends.stops.run in
-      let many = unsingle-at config at.done at.rest at.action (subst (AllByRecursion (IsUnsingle config)) at.parts all) run.0 run.1 in
-      let memory = breaks-memory run.0 ends.why at.middle ends.left at.between new ends.more many (subst (λ a. Breaks held faults config ends.why a at.middle at.between ends.more ends.left new) run.1 ends.breaks) in
-      let reason = ends.stops.reason in
-      absurd (cc)
 
 -- what ended before its lines were to be summed up has none of the two statuses
 pub none-summed : (how : Status) → (how ≡ status.NoMemory) ⊎ (how ≡ status.Stopped) → ¬ IsSummed (code_of how)
@@ -187,10 +160,10 @@ gives-none transfers how before after lines is same = record {
 
 module _ {D : Type 0} (held : D → Held) (faults : D → ℕ) (transfers : ℕ) (candidates : Option (List Candidate)) (old new : List (Fuse D)) (sink : Type 0) (before after : List ℕ) where
   -- all actions were done, and the five lines were to be given
-  pub bank-summed : (lines : List Line) (code : ℕ) → code ≢ 6 → MayStand held (bank_script transfers).config old candidates → length old ≡ devices
+  pub bank-summed : (lines : List Line) (code : ℕ) → MayStand held (bank_script transfers).config old candidates → length old ≡ devices
       → CollectsAll held faults (bank_script transfers).config (opening candidates) (bank_script transfers).actions old lines new → (sink → GivesSummary transfers code before after lines)
       → TellsBank held faults transfers candidates code old new sink before after
-  bank-summed lines code other stands count all given =
+  bank-summed lines code stands count all given =
       let whole : EndsWhole held faults (bank_script transfers).config (opening candidates) (bank_script transfers).actions old new ⊥ [] [] =
       record { lines = lines; left = all.left; told = all.told; given = λ no. absurd no; stands = all.stands } in
       record {
@@ -198,7 +171,6 @@ module _ {D : Type 0} (held : D → Held) (faults : D → ℕ) (transfers : ℕ)
         law = λ summed. all.told;
         given = given;
         faultless = λ none summed. faultless held faults (bank_script transfers).config (bank_script transfers).actions (opening candidates) all.left old new lines count (inr (_, refl)) all.told none;
-        unstopped = other;
       }
 
   -- the actions ended before
@@ -209,9 +181,6 @@ module _ {D : Type 0} (held : D → Held) (faults : D → ℕ) (transfers : ℕ)
     law = λ summed. absurd (none-summed how is summed);
     given = λ told. gives-none transfers how before after _ is (same told);
     faultless = λ none summed. absurd (none-summed how is summed);
-    unstopped = λ six.
-        let stopped = code-stopped how six in
-        none-stopped held faults (bank_script transfers).config (opening candidates) (bank_script transfers).actions old new ⊥ [] [] (bank-unsingle transfers) (subst (λ s. Tells held faults (bank_script transfers) candidates s old new ⊥ [] []) stopped tells);
   }
 
 -- what was given, by the status with which it was
@@ -224,11 +193,8 @@ gives-status transfers how before after lines whole part none is = record {
 }
 
 -- a status of what was to be given
-pub summed-status : (how : Status) → (how ≡ status.Done) ⊎ (how ≡ status.SinkFailed) ⊎ (how ≡ status.NoMemory) → IsSummed (code_of how) ⊎ (code_of how ≡ 2) ⊎ (code_of how ≡ 6)
-summed-status how is = ⊎_elim (λ done. inl (inl (ap code_of done))) (λ more. ⊎_elim (λ sunk. inl (inr (ap code_of sunk))) (λ memory. inr (inl (ap code_of memory))) more) is
-
-pub summed-other : (how : Status) → (how ≡ status.Done) ⊎ (how ≡ status.SinkFailed) ⊎ (how ≡ status.NoMemory) → code_of how ≢ 6
-summed-other how is six = let stopped = code-stopped how six in ⊎_elim (λ e. absurd (cc)) (λ more. ⊎_elim (λ e. absurd (cc)) (λ e. absurd (cc)) more) is
+pub summed-status : (how : Status) → (how ≡ status.Done) ⊎ (how ≡ status.SinkFailed) ⊎ (how ≡ status.NoMemory) → IsSummed (code_of how) ⊎ (code_of how ≡ 2)
+summed-status how is = ⊎_elim (λ done. inl (inl (ap code_of done))) (λ more. ⊎_elim (λ sunk. inl (inr (ap code_of sunk))) (λ memory. inr (ap code_of memory)) more) is
 
 -- none of the bank's actions is to be cut off
 pub bank-unkilled : (transfers : ℕ) → NoneKilled (bank_script transfers).actions
@@ -254,3 +220,20 @@ module _ {D : Type 0} (kind : disk.Ghosts D) (on : (a b c : D) → kind.is_same 
 
   pub bank-off : Leaves (bank_script transfers) → IsOff new
   bank-off leaves = bay-off kind (bank_script transfers).config (NoneKilled (bank_script transfers).actions) old new leaves
+
+-- a bank run of which nothing was begun, for want of memory
+pub bank-unbegun : {K D : Type 0} (sinks : sink.Ghosts K) (disks : disk.Ghosts D) (transfers : ℕ) (sink : K) (old : List (Fuse D)) → KeepsSink sinks sink sink → KeepsBay disks old old → AnswersBank sinks disks transfers 2 sink sink old old
+bank-unbegun sinks disks transfers sink old keeps same = record {
+  status = inr refl;
+  told = λ candidates tell opens.
+      inl (bank-ended disks.held disks.faults transfers candidates old old (IsTrue (sinks.tells sink)) (sinks.given sink) (sinks.given sink) status.NoMemory (inl refl) opens.stands (inl (refl, λ no. absurd no)) (λ t. refl));
+  printed = λ summed. absurd (none-summed status.NoMemory (inl refl) summed);
+  silent = λ unsummed t. refl;
+  sink_failed = λ e. absurd (omega (arith, e));
+  keeps_sink = keeps;
+  devices = same;
+  others = inl (others-none (bank_script transfers).config (FuseRestarts disks) old);
+  uncut = switched-cuts old old (switches-same old);
+  off = inl refl;
+  summed_off = λ summed. absurd (none-summed status.NoMemory (inl refl) summed);
+}

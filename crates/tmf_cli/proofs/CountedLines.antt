@@ -8,6 +8,7 @@ use Rattle.std.proofs.lemmas.List.Elements.{filter_map-append, recursion_from_Al
 use Rattle.disk_model.specs.Devices.{NoneFalls, RoseAt}
 use Rattle.disk_model.specs.Fuse.{fuse_faults}
 use Rattle.disk_model.specs.Held.{Held}
+use Rattle.disk_model.specs.declared.disk.Disk as disk
 use Rattle.disk_model.specs.declared.fuse.Fuse.{Fuse}
 use Rattle.one_worker.specs.RunLaw.{IsOfNode}
 use Rattle.one_worker.specs.declared.stop.RunError.{RunError}
@@ -16,7 +17,7 @@ use Rattle.rollforward.specs.declared.errors.RollError.{RollError}
 use Rattle.rollforward.specs.declared.errors.RollError.TheVariants as roll
 use Rattle.run_outcomes.specs.Devices.{devices, fuse_kind, part_of_device}
 use Rattle.run_outcomes.specs.Ends.{times_failed}
-use Rattle.run_outcomes.specs.Run.{RoseBy, account_of}
+use Rattle.run_outcomes.specs.Run.{HasRun, RoseBy, account_of}
 use Rattle.run_outcomes.specs.Told.{Account}
 use Rattle.run_outcomes.specs.declared.outcome.Hang.TheVariants as hang
 use Rattle.run_outcomes.specs.declared.outcome.Outcome.{Outcome as RunOutcome}
@@ -60,7 +61,7 @@ use Rattle.tmf_cli.proofs.FaultlessLines.{faultless-listed, faultless-outcomes, 
 use Rattle.tmf_cli.proofs.Losses.{number-within}
 use Rattle.tmf_cli.proofs.OneOutputs.{told-falls}
 use Rattle.tmf_cli.proofs.Resting.{file-volume}
-use Rattle.tmf_cli.specs.Countdown.{IsSwitched}
+use Rattle.tmf_cli.specs.Countdown.{IsSwitched, Switches}
 
 -- NAMES
 
@@ -77,7 +78,7 @@ module _ (config : Config) where
       sym (ap (λ (b : Bool). if b then plain_name (device_name config device) else record { dumps = true; name = volume_name config (device - 12) }) (at-most device 12 less))
 
   -- a format that failed names the device
-  format-name : (device : ℕ) → failed_of (format_failure config device) ≡ Some (node_device_name config device)
+  pub format-name : (device : ℕ) → failed_of (format_failure config device) ≡ Some (node_device_name config device)
   format-name device = by (nat_le device 12) (device_name config device) (volume_name config (device - 12))
     where
       by : (b : Bool) (name volume : List ℕ) → failed_of (if b then Failed asked.Format name else DumpsFailed volume) ≡ Some (if b then plain_name name else record { dumps = true; name = volume })
@@ -86,7 +87,7 @@ module _ (config : Config) where
 
 module _ (config : Config) (valid : IsValidConfig config) where
   -- a volume's device has the volume's name
-  volume-name : (volume : ℕ) → 1 ≤ volume → volume ≤ length config.volumes → plain_name (volume_name config volume) ≡ node_device_name config (volume_device volume)
+  pub volume-name : (volume : ℕ) → 1 ≤ volume → volume ≤ length config.volumes → plain_name (volume_name config volume) ≡ node_device_name config (volume_device volume)
   volume-name volume some few =
       let number : 4 + volume - 4 ≡ volume = omega arith in
       let own : device_name config (4 + volume) ≡ volume_name config volume =
@@ -98,11 +99,11 @@ module _ (config : Config) (valid : IsValidConfig config) where
   node-most device (inl trail) = omega (arith, trail, valid.trails.few)
   node-most device (inr (volume, declared, is)) = omega (arith, is, declared.below, valid.volumes.few)
 
-  node-name : (device : ℕ) → IsOfNode config device → plain_name (device_name config device) ≡ node_device_name config device
+  pub node-name : (device : ℕ) → IsOfNode config device → plain_name (device_name config device) ≡ node_device_name config device
   node-name device of = plain config device (node-most device of)
 
   -- so is that of a file's volume
-  file-name : (file device : ℕ) → IsDeclared config.files file → device ≡ volume_device (volume_on config file) → plain_name (device_name config device) ≡ node_device_name config device
+  pub file-name : (file device : ℕ) → IsDeclared config.files file → device ≡ volume_device (volume_on config file) → plain_name (device_name config device) ≡ node_device_name config device
   file-name file device declared is =
       let volume = file-volume config file valid declared in
       let within = number-within config.volumes (volume_on config file) volume.0 volume.1 in
@@ -124,7 +125,7 @@ unfailed (Hanging tx device) fine = absurd fine
 unfailed (Stopped name kind) fine = absurd fine
 unfailed _ fine = refl
 
-unfailed-all : (lines : List Line) → AreFaultless lines → AreUnfailed lines
+pub unfailed-all : (lines : List Line) → AreFaultless lines → AreUnfailed lines
 unfailed-all lines fine = all-weaker IsFaultless (λ line. failed_of line ≡ None) unfailed lines fine
 
 -- what an outcome of a run on threads tells of
@@ -161,36 +162,41 @@ run-names config (o ∷ rest) =
     filter_map-append failed_of (told_lines config o.tx o.told) (run_lines config rest) ∙ ap (λ l. l ++ filter_map failed_of (run_lines config rest)) (told-names config o.tx o.told)
     ∙ ap (λ l. map (node_device_name config) (cons_option (device_told o.told) []) ++ l) (run-names config rest) ∙ sym (names-first config (device_told o.told) (devices_told rest))
 
+-- the lines of a run on threads
+pub ran-counted : {D : Type 0} (kind : disk.Ghosts D) (config : Config) (phase : Phase) (epoch : ℕ) (old opened closed new : List (Fuse D)) → Switches old opened → Switches closed new → (outcomes : List RunOutcome)
+    → HasRun (fuse_kind kind) config phase epoch opened closed outcomes → (lines : List Line) → lines ≡ run_lines config outcomes → AreCounted kind.faults config lines old new
+ran-counted {D} kind config phase epoch old opened closed new on off outcomes ran lines printed =
+    let account : Account = account_of (fuse_kind kind) config phase epoch (λ number. slice_get opened number) ran.found ran.log in
+    record {
+      named = devices_told outcomes;
+      names = ap (filter_map failed_of) printed ∙ run-names config outcomes;
+      there = λ count. told-there account outcomes ran.told;
+      rose = λ device before after was now.
+          let first = fuse-after IsSwitched old opened device before was on in
+          let last = fuse-before IsSwitched closed new device after now off in
+          let times = times_named device (devices_told outcomes) in
+          let rise : RoseBy times (fuse_faults kind.faults first.0) (fuse_faults kind.faults last.0) =
+          rose-fewer times (times_failed (part_of_device device) ran.log) (fuse_faults kind.faults first.0) (fuse_faults kind.faults last.0)
+          (told-times account outcomes ran.told phase epoch ran.attempts device) (ran.failed device first.0 last.0 first.1 last.1) in
+          subst (λ n. RoseBy times n (fuse_faults kind.faults after)) (same-faults kind.faults before first.0 first.2)
+          (subst (λ n. RoseBy times (fuse_faults kind.faults first.0) n) (sym (same-faults kind.faults last.0 after last.2)) rise);
+    }
+
 module _ {D : Type 0} (held : D → Held) (faults : D → ℕ) (config : Config) where
   abbrev IsCounted : List Line → List (Fuse D) → List (Fuse D) → Type 0
   IsCounted lines old new = AreCounted faults config lines old new
 
   -- one line that tells of no failed call
-  plain-line : (line : Line) (lines : List Line) (old new : List (Fuse D)) → failed_of line ≡ None → lines ≡ line ∷ [] → NoneFalls faults old new → IsCounted lines old new
+  pub plain-line : (line : Line) (lines : List Line) (old new : List (Fuse D)) → failed_of line ≡ None → lines ≡ line ∷ [] → NoneFalls faults old new → IsCounted lines old new
   plain-line line lines old new none is falls = counted-none faults config lines old new (subst AreUnfailed (sym is) (none, tt)) falls
 
   -- lines of which none tells of one
-  fine-lines : (fine lines : List Line) (old new : List (Fuse D)) → AreFaultless fine → lines ≡ fine → NoneFalls faults old new → IsCounted lines old new
+  pub fine-lines : (fine lines : List Line) (old new : List (Fuse D)) → AreFaultless fine → lines ≡ fine → NoneFalls faults old new → IsCounted lines old new
   fine-lines fine lines old new are is falls = counted-none faults config lines old new (subst AreUnfailed (sym is) (unfailed-all fine are)) falls
 
   -- those of a run on threads
   threads-counted : (phase : Phase) (node after : Node) (old new : List (Fuse D)) (lines : List Line) → RunsOnThreads held faults config phase node old lines after new → IsCounted lines old new
-  threads-counted phase node after old new lines ran =
-      let account : Account = account_of (fuse_kind (telling held faults)) config phase ran.up.epoch (λ number. slice_get ran.opened number) ran.ran.found ran.ran.log in
-      record {
-        named = devices_told ran.outcomes;
-        names = ap (filter_map failed_of) ran.printed ∙ run-names config ran.outcomes;
-        there = λ count. told-there account ran.outcomes ran.ran.told;
-        rose = λ device before after was now.
-            let opened = fuse-after IsSwitched old ran.opened device before was ran.on in
-            let closed = fuse-before IsSwitched ran.closed new device after now ran.off in
-            let times = times_named device (devices_told ran.outcomes) in
-            let rise : RoseBy times (fuse_faults faults opened.0) (fuse_faults faults closed.0) =
-            rose-fewer times (times_failed (part_of_device device) ran.ran.log) (fuse_faults faults opened.0) (fuse_faults faults closed.0)
-            (told-times account ran.outcomes ran.ran.told phase ran.up.epoch ran.ran.attempts device) (ran.ran.failed device opened.0 closed.0 opened.1 closed.1) in
-            subst (λ n. RoseBy times n (fuse_faults faults after)) (same-faults faults before opened.0 opened.2)
-            (subst (λ n. RoseBy times (fuse_faults faults opened.0) n) (sym (same-faults faults closed.0 after closed.2)) rise);
-      }
+  threads-counted phase node after old new lines ran = ran-counted (telling held faults) config phase ran.up.epoch old ran.opened ran.closed new ran.on ran.off ran.outcomes ran.ran lines ran.printed
 
   -- ONE ACTION
 
@@ -309,7 +315,7 @@ module _ {D : Type 0} (held : D → Held) (faults : D → ℕ) (config : Config)
         by (action.List file) (memory, none, is) = absurd (never memory)
 
     -- lines behind others that tell of no failed call
-    counted-behind : (lines more : List Line) (old new : List (Fuse D)) → AreUnfailed lines → IsCounted more old new → IsCounted (lines ++ more) old new
+    pub counted-behind : (lines more : List Line) (old new : List (Fuse D)) → AreUnfailed lines → IsCounted more old new → IsCounted (lines ++ more) old new
     counted-behind lines more old new none counted = record {
       named = counted.named;
       names = filter_map-append failed_of lines more ∙ ap (λ l. l ++ filter_map failed_of more) (unfailed-none lines none) ∙ counted.names;
@@ -343,7 +349,7 @@ module _ {D : Type 0} (held : D → Held) (faults : D → ℕ) (config : Config)
             subst (λ l. IsCounted (ends.more ++ l) ends.reaches.between new) (sym is_last)
             (stop-counted ends.reaches.action ends.reaches.middle ends.left ends.reaches.between new ends.more why line ends.counts.falls breaks stops)
 
-    front-valid : (first more : List Action) → AllByRecursion (IsValidAction config) (first ++ more) → AllByRecursion (IsValidAction config) first × AllByRecursion (IsValidAction config) more
+    pub front-valid : (first more : List Action) → AllByRecursion (IsValidAction config) (first ++ more) → AllByRecursion (IsValidAction config) first × AllByRecursion (IsValidAction config) more
     front-valid [] more are = (tt, are)
     front-valid (done ∷ first) more are = let parts = front-valid first more are.1 in ((are.0, parts.0), parts.1)
 

@@ -31,7 +31,7 @@ use Rattle.tmf_edges.specs.Moves.{AppendsPart}
 use Rattle.tmf_lines.proofs.LineTexts.{lines_text-more}
 
 -- lines that were given whole, and a part of more
-part-behind : (before mid after : List ℕ) (lines more : List Line) → mid ≡ before ++ lines_text lines → AppendsPart mid after (lines_text more) → AppendsPart before after (lines_text (lines ++ more))
+pub part-behind : (before mid after : List ℕ) (lines more : List Line) → mid ≡ before ++ lines_text lines → AppendsPart mid after (lines_text more) → AppendsPart before after (lines_text (lines ++ more))
 part-behind before mid after lines more is given =
     let whole : length (lines_text (lines ++ more)) ≡ length (lines_text lines) + length (lines_text more) = ap length (lines_text-more lines more) ∙ length-append (lines_text lines) (lines_text more) in
     record {

@@ -1,4 +1,5 @@
 pub mod Acts
+pub mod AnyDevices
 pub mod Banks
 pub mod BankWords
 pub mod Bays
@@ -20,6 +21,7 @@ pub mod Naming
 pub mod OneOutputs
 pub mod Openings
 pub mod Playing
+pub mod PrintedCounts
 pub mod Promises
 pub mod Ran
 pub mod Resting

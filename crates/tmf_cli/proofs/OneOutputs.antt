@@ -220,14 +220,14 @@ module _ {D : Type 0} (faults : D → ℕ) where
       of None is f = absurd f
       of (Some before) is f = (before, is, f)
 
-  falls-itself : (old : List (Fuse D)) → NoneFalls faults old old
+  pub falls-itself : (old : List (Fuse D)) → NoneFalls faults old old
   falls-itself old device = of (slice_get old device)
     where
       of : (o : Option (Fuse D)) → FuseAs After o o
       of None = tt
       of (Some fuse) = omega arith
 
-  falls-further : (a b c : List (Fuse D)) → NoneFalls faults a b → NoneFalls faults b c → NoneFalls faults a c
+  pub falls-further : (a b c : List (Fuse D)) → NoneFalls faults a b → NoneFalls faults b c → NoneFalls faults a c
   falls-further a b c first then device = of (slice_get a device) (slice_get b device) (slice_get c device) (first device) (then device)
     where
       of : (x y z : Option (Fuse D)) → FuseAs After x y → FuseAs After y z → FuseAs After x z

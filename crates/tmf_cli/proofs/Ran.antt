@@ -53,7 +53,7 @@ all-made (Failed device) lines due is = is
 all-made (Damaged device) lines due is = is
 
 -- a stop ends the script for itself
-own-end : (stop : Stop) → IsEndOf stop (run.Stopped stop)
+pub own-end : (stop : Stop) → IsEndOf stop (run.Stopped stop)
 own-end NoMemory = tt
 own-end (Failed device) = refl
 own-end (Damaged device) = refl

@@ -130,3 +130,10 @@ none-read status.Refused (inl is) e = absurd (cc)
 none-read status.Refused (inr is) e = absurd (cc)
 none-read status.Stopped (inl is) e = absurd (cc)
 none-read status.Stopped (inr is) e = absurd (cc)
+
+-- want of memory is no status of a text that was read
+pub memory-unread : IsRead 2 → ⊥
+memory-unread (inl (inl e)) = absurd (omega (arith, e))
+memory-unread (inl (inr (inl e))) = absurd (omega (arith, e))
+memory-unread (inl (inr (inr e))) = absurd (omega (arith, e))
+memory-unread (inr e) = absurd (omega (arith, e))

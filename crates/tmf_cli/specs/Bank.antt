@@ -1,5 +1,5 @@
 -- What `tmf bank N` makes of its sink and its devices.
-use Rattle.std.specs.Prelude.{◌≡◌, ◌≢◌, ◌⊎◌, ℕ, List, [], ◌++◌, Option, IsTrue}
+use Rattle.std.specs.Prelude.{◌≡◌, ◌⊎◌, ℕ, List, [], ◌++◌, Option, IsTrue}
 use Rattle.disk_model.specs.Held.{Held, Rose}
 use Rattle.disk_model.specs.Devices.{DevicesTell, FuseRestarts}
 use Rattle.disk_model.specs.declared.disk.Disk as disk
@@ -18,6 +18,7 @@ use Rattle.tmf_cli.specs.declared.status.ScriptEnd.TheVariants.{GiveFault, Stopp
 use Rattle.tmf_cli.specs.declared.status.Status.{Status}
 use Rattle.tmf_cli.specs.declared.status.Status.TheVariants as status
 use Rattle.tmf_cli.specs.ActionGiven.{KeepsSink}
+use Rattle.tmf_cli.specs.AnyDevices.{HavePrinted, Prints}
 use Rattle.tmf_cli.specs.BetweenActions.{HasDone, OthersRestarted}
 use Rattle.tmf_cli.specs.Call.{KeepsBay}
 use Rattle.tmf_cli.specs.Countdown.{IsOff, NoneCut, OnceSwitched}
@@ -33,6 +34,12 @@ use Rattle.tmf_cli.specs.Top.{Opens}
 pub record HasCollected {D : Type 0} (held : D → Held) (faults : D → ℕ) (config : Config) (action : Action) (node : Node) (old : List (Fuse D)) (before after : List Line) (state : NodeState) (new : List (Fuse D)) : Type 0 where
   pub lines : List Line
   pub done : HasDone held faults config action node old lines state new
+  pub behind : after ≡ before ++ lines
+
+-- The same over any devices.
+pub record HasGathered {D : Type 0} (kind : disk.Ghosts D) (config : Config) (action : Action) (state : NodeState) (old : List (Fuse D)) (before after : List Line) (left : NodeState) (new : List (Fuse D)) : Type 0 where
+  pub lines : List Line
+  pub prints : Prints kind config action state old lines left new
   pub behind : after ≡ before ++ lines
 
 -- All actions were done, and these are their lines.
@@ -58,21 +65,27 @@ pub record GivesSummary (transfers code : ℕ) (before after : List ℕ) (lines 
   pub part : code ≡ 4 → AppendsPart before after (summary_text transfers lines)
   pub none : ¬ IsSummed code → after ≡ before
 
--- The promise and the law of the output hold of the bank's script as of any other, over lines that are given to nobody; the sink is given what they come to. No device ends it: its run is not single.
+-- The promise and the law of the output hold of the bank's script as of any other, over lines that are given to nobody; the sink is given what they come to.
 pub record TellsBank {D : Type 0} (held : D → Held) (faults : D → ℕ) (transfers : ℕ) (candidates : Option (List Candidate)) (code : ℕ) (old new : List (Fuse D)) (sink : Type 0) (before after : List ℕ) : Type 0 where
   pub promise : KeepsEveryCommit held faults (bank_script transfers) candidates code old new ⊥ [] []
   pub law : IsSummed code → ToldBy held faults (bank_script transfers).config (bank_script transfers).actions (opening candidates) old promise.lines promise.left new
   pub given : sink → GivesSummary transfers code before after promise.lines
   pub faultless : NoneRose faults old new → IsSummed code → AreFaultless promise.lines
-  pub unstopped : code ≢ 6
 
--- What `tmf bank N` answers: status 0 where the five lines were given, 4 where the sink failed at them, 2 for want of memory, and 6 only over devices that do not tell what they hold. No call is cut; where
--- anything was begun, the countdown is off.
+-- Over any devices, the actions of the bank's script were done with these lines, and the sink was given what they come to.
+pub record PrintsBank {D : Type 0} (kind : disk.Ghosts D) (transfers code : ℕ) (old new : List (Fuse D)) (sink : Type 0) (before after : List ℕ) : Type 0 where
+  pub lines : List Line
+  pub told : HavePrinted kind (bank_script transfers).config (bank_script transfers).actions old lines new
+  pub given : sink → GivesSummary transfers code before after lines
+
+-- What `tmf bank N` answers: status 0 where the five lines were given, 4 where the sink failed at them, and 2 for want of memory. No device ends it, since its run is not single. No call is cut; where anything
+-- was begun, the countdown is off.
 pub record AnswersBank {K D : Type 0} (sinks : sink.Ghosts K) (disks : disk.Ghosts D) (transfers code : ℕ) (sink sink_now : K) (old new : List (Fuse D)) : Type 0 where
-  pub status : IsSummed code ⊎ (code ≡ 2) ⊎ (code ≡ 6)
+  pub status : IsSummed code ⊎ (code ≡ 2)
   pub told : (candidates : Option (List Candidate)) → DevicesTell disks.tells old → Opens disks.held (bank_script transfers) old candidates
       → OnceSwitched (λ opened. TellsBank disks.held disks.faults transfers candidates code opened new (IsTrue (sinks.tells sink)) (sinks.given sink) (sinks.given sink_now)) old
-  pub given : IsTrue (sinks.tells sink) → (lines : List Line) × GivesSummary transfers code (sinks.given sink) (sinks.given sink_now) lines
+  pub printed : IsSummed code → OnceSwitched (λ opened. PrintsBank disks transfers code opened new (IsTrue (sinks.tells sink)) (sinks.given sink) (sinks.given sink_now)) old
+  pub silent : ¬ IsSummed code → IsTrue (sinks.tells sink) → sinks.given sink_now ≡ sinks.given sink
   pub sink_failed : code ≡ 4 → Rose (sinks.faults sink) (sinks.faults sink_now)
   pub keeps_sink : KeepsSink sinks sink sink_now
   pub devices : KeepsBay disks old new

@@ -1,4 +1,5 @@
 pub mod ActionGiven
+pub mod AnyDevices
 pub mod Bank
 pub mod BetweenActions
 pub mod Call

@@ -44,6 +44,14 @@ IsSingleAction config (ListFile file) = Unit {0}
 abbrev pub AreSingle : Config → List Action → Type 0
 AreSingle config actions = AllByRecursion (IsSingleAction config) actions
 
+-- the action is no single run
+abbrev pub IsUnsingle : Config → Action → Type 0
+IsUnsingle config action = (phase : Phase) → action ≡ Run phase → ¬ IsSingle config phase
+
+-- no run among the actions is single
+abbrev pub NoneSingle : Config → List Action → Type 0
+NoneSingle config actions = AllByRecursion (IsUnsingle config) actions
+
 -- the first worker's items, none where there is no worker
 abbrev pub first_worker : List (List Item) → List Item
 first_worker [] = []

@@ -3,6 +3,7 @@ ghost use Rattle.std.specs.Prelude.{◌≡◌, ℕ, [], List, Option, None, Err,
 ghost use Rattle.tmf_model.specs.Config.{IsDeclared, IsValidConfig};
 ghost use Rattle.tmf_model.specs.declared.script.Action.TheVariants.{Format, Recover as RecoverAction, Run as RunAction, Lose as LoseAction, List as ListAction};
 ghost use Rattle.tmf_model.specs.Script.{IsValidAction, IsValidPhase};
+ghost use Rattle.tmf_cli.specs.AnyDevices.{Halts, HaltsRun, Prints};
 ghost use Rattle.tmf_cli.specs.BetweenActions.{HasDone, HasBroken, IsBounded, IsListLine, Knows, LeavesBay, SameOthers, node_of};
 ghost use Rattle.tmf_cli.specs.OutputLaw.{HasFailed, Candidate, IsRecoveryLine};
 ghost use Rattle.disk_model.specs.Devices.{AreLater, DevicesTell};
@@ -41,6 +42,7 @@ fn act_format<D: Disk>(
     ensures done { (candidates : Option (List Candidate)) → DevicesTell D.tells bay.old
         → IfOk result (λ lines. HasDone D.held D.faults config.now Format (node_of state.old candidates) bay.old lines.items state.new bay.new) }
     ensures broken { (candidates : Option (List Candidate)) → IfErr result (λ stop. HasBroken D.held D.faults config.now Format (node_of state.old candidates) bay.old [] stop bay.new) }
+    ensures prints { IfOk result (λ lines. Prints D.Disk config.now Format state.old bay.old lines.items state.new bay.new) }
     ensures small { OnOk result (IsBounded state.new.up) }
     ensures keeps { AreLater D.Disk bay.old bay.new }
     ensures others { SameOthers config.now bay.old bay.new }
@@ -76,6 +78,7 @@ fn act_recover<D: Disk>(
         → IfOk result (λ lines. HasDone D.held D.faults config.now (RecoverAction kill) (node_of state.old candidates) bay.old lines.items state.new bay.new) }
     ensures broken { (candidates : Option (List Candidate)) → DevicesTell D.tells bay.old → Knows D.held config.now (node_of state.old candidates) bay.old
         → IfErr result (λ stop. HasBroken D.held D.faults config.now (RecoverAction kill) (node_of state.old candidates) bay.old [] stop bay.new) }
+    ensures prints { IfOk result (λ lines. Prints D.Disk config.now (RecoverAction kill) state.old bay.old lines.items state.new bay.new) }
     ensures small { OnOk result (IsBounded state.new.up) }
     ensures keeps { LeavesBay D.Disk config.now (kill ≡ None) bay.old bay.new }
     ensures memory { IfErr result (λ stop. stop ≡ Stop.NoMemory) }
@@ -117,6 +120,7 @@ fn act_lose<D: Disk>(
         → IfOk result (λ lines. HasDone D.held D.faults config.now (LoseAction volume) (node_of state.old candidates) bay.old lines.items state.new bay.new) }
     ensures broken { (candidates : Option (List Candidate)) → DevicesTell D.tells bay.old → Knows D.held config.now (node_of state.old candidates) bay.old
         → IfErr result (λ stop. HasBroken D.held D.faults config.now (LoseAction volume) (node_of state.old candidates) bay.old [] stop bay.new) }
+    ensures prints { IfOk result (λ lines. Prints D.Disk config.now (LoseAction volume) state.old bay.old lines.items state.new bay.new) }
     ensures small { OnOk result (IsBounded state.new.up) }
     ensures keeps { AreLater D.Disk bay.old bay.new }
     ensures others { SameOthers config.now bay.old bay.new }
@@ -147,6 +151,7 @@ fn act_list<D: Disk>(
         → IfOk result (λ lines. HasDone D.held D.faults config.now (ListAction file) (node_of state candidates) bay.old lines.items state bay.new) }
     ensures broken { (candidates : Option (List Candidate)) → DevicesTell D.tells bay.old → Knows D.held config.now (node_of state candidates) bay.old
         → IfErr result (λ stop. HasBroken D.held D.faults config.now (ListAction file) (node_of state candidates) bay.old [] stop bay.new) }
+    ensures prints { IfOk result (λ lines. Prints D.Disk config.now (ListAction file) state bay.old lines.items state bay.new) }
     ensures keeps { AreLater D.Disk bay.old bay.new }
     ensures others { SameOthers config.now bay.old bay.new }
     ensures memory { IfErr result (λ stop. stop ≡ Stop.NoMemory) }
@@ -216,6 +221,7 @@ fn act_run<R: Threads + Wait + Sync, D: Disk + Send>(
         → OnOk result.0 (HasDone D.held D.faults config.now (RunAction phase.now) (node_of state.old candidates) bay lines.new.items state.new result.1) }
     ensures broken { (candidates : Option (List Candidate)) → DevicesTell D.tells bay → Knows D.held config.now (node_of state.old candidates) bay
         → IfErr result.0 (λ stop. HasBroken D.held D.faults config.now (RunAction phase.now) (node_of state.old candidates) bay lines.new.items stop result.1) }
+    ensures prints { MatchResult result.0 (λ _. Prints D.Disk config.now (RunAction phase.now) state.old bay lines.new.items state.new result.1) (λ why. HaltsRun D.Disk config.now why phase.now state.old lines.new.items) }
     ensures small { IsBounded state.new.up }
     ensures keeps { LeavesBay D.Disk config.now (phase.now.kill ≡ None) bay result.1 }
     ensures cause { (device : ℕ) → result.0 ≡ Err (Stop.Failed device) → HasFailed D.faults config.now bay result.1 device }
@@ -250,6 +256,7 @@ pub fn act<R: Threads + Wait + Sync, D: Disk + Send>(
         → OnOk result.0 (HasDone D.held D.faults config.now action.now (node_of state.old candidates) bay lines.new.items state.new result.1) }
     ensures broken { (candidates : Option (List Candidate)) → DevicesTell D.tells bay → Knows D.held config.now (node_of state.old candidates) bay
         → IfErr result.0 (λ stop. HasBroken D.held D.faults config.now action.now (node_of state.old candidates) bay lines.new.items stop result.1) }
+    ensures prints { MatchResult result.0 (λ _. Prints D.Disk config.now action.now state.old bay lines.new.items state.new result.1) (λ why. Halts D.Disk config.now why action.now state.old lines.new.items) }
     ensures small { OnOk result.0 (IsBounded state.new.up) }
     ensures keeps { LeavesBay D.Disk config.now (kill_of action.now ≡ None) bay result.1 }
     ensures cause { (device : ℕ) → result.0 ≡ Err (Stop.Failed device) → HasFailed D.faults config.now bay result.1 device }

@@ -1,5 +1,5 @@
 //! `tmf bank N`: the actions of the bank's text, and the five lines that tell what they came to.
-ghost use Rattle.std.specs.Prelude.{◌≡◌, ◌≢◌, ◌⊎◌, ◌++◌, ◌≤◌, ℕ, [], length, All, List, None, Option, IsTrue, IfErr, IfOk, OnOk};
+ghost use Rattle.std.specs.Prelude.{◌≡◌, ◌≢◌, ◌⊎◌, ◌++◌, ◌≤◌, ℕ, [], length, All, List, None, Option, IsTrue, IfErr, IfOk, MatchResult, OnOk};
 ghost use Rattle.disk_model.specs.Devices.{DevicesTell};
 ghost use Rattle.run_outcomes.specs.Devices.{devices};
 ghost use Rattle.tmf_edges.specs.Moves.{AppendsPart};
@@ -9,11 +9,13 @@ ghost use Rattle.tmf_script.specs.Bank.{bank_script};
 ghost use Rattle.tmf_lines.specs.Summary.{summary_text};
 ghost use Rattle.tmf_cli.specs.declared.status.Status.{Status};
 ghost use Rattle.tmf_cli.specs.ActionGiven.{EndsAction, EndsScript, KeepsSink};
-ghost use Rattle.tmf_cli.specs.Bank.{AnswersBank, CollectsAll, HasCollected, end_status};
+ghost use Rattle.tmf_cli.specs.AnyDevices.{EndsPlaying, EndsPrinting, HavePrinted};
+ghost use Rattle.tmf_cli.specs.Bank.{AnswersBank, CollectsAll, HasCollected, HasGathered, end_status};
 ghost use Rattle.tmf_cli.specs.BetweenActions.{IsBounded, Knows, LeavesBay, node_of};
 ghost use Rattle.tmf_cli.specs.Countdown.{IsOff, NoneKilled, OnceSwitched, kill_of};
 ghost use Rattle.tmf_cli.specs.Ending.{opening};
 ghost use Rattle.tmf_cli.specs.OutputLaw.{Candidate};
+ghost use Rattle.tmf_cli.specs.Single.{NoneSingle};
 ghost use Rattle.tmf_cli.specs.Status.{code_of};
 ghost use Rattle.tmf_cli.specs.Top.{IsStatusCaused, Opens, Tells};
 
@@ -49,6 +51,8 @@ fn collect_action<R: Threads + Wait + Sync, D: Disk + Send>(
         → OnOk result.0 (HasCollected D.held D.faults config.now action.now (node_of state.old candidates) bay lines.old.items lines.new.items state.new result.1) }
     ensures ended { (candidates : Option (List Candidate)) → DevicesTell D.tells bay → Knows D.held config.now (node_of state.old candidates) bay
         → IfErr result.0 (λ end. EndsAction D.held D.faults config.now action.now (node_of state.old candidates) bay result.1 end ⊥ [] []) }
+    ensures prints { MatchResult result.0 (λ _. HasGathered D.Disk config.now action.now state.old bay lines.old.items lines.new.items state.new result.1)
+        (λ end. EndsPrinting D.Disk config.now action.now state.old bay result.1 end ⊥ [] []) }
     ensures small { OnOk result.0 (IsBounded state.new.up) }
     ensures keeps { LeavesBay D.Disk config.now (kill_of action.now ≡ None) bay result.1 }
     ensures sinkless { IfErr result.0 (λ end. end ≢ ScriptEnd.GiveFault GiveFault.SinkFailed) }
@@ -80,6 +84,7 @@ fn collect<R: Threads + Wait + Sync, D: Disk + Send>(
         → OnOk result.0 (CollectsAll D.held D.faults config.now (opening candidates) actions.now bay lines.new.items result.1) }
     ensures ended { (candidates : Option (List Candidate)) → DevicesTell D.tells bay → Knows D.held config.now (opening candidates) bay
         → IfErr result.0 (λ end. EndsScript D.held D.faults config.now (opening candidates) actions.now bay result.1 end ⊥ [] []) }
+    ensures prints { MatchResult result.0 (λ _. HavePrinted D.Disk config.now actions.now bay lines.new.items result.1) (λ end. EndsPlaying D.Disk config.now actions.now bay result.1 end ⊥ [] []) }
     ensures keeps { LeavesBay D.Disk config.now (NoneKilled actions.now) bay result.1 }
     ensures sinkless { IfErr result.0 (λ end. end ≢ ScriptEnd.GiveFault GiveFault.SinkFailed) }
 {
@@ -123,7 +128,9 @@ fn carry_out_bank<R: Threads + Wait + Sync, D: Disk + Send>(
         → OnOk result.0 (OnceSwitched (λ opened. CollectsAll D.held D.faults script.now.config (opening candidates) script.now.actions opened lines.new.items result.1) bay) }
     ensures ended { (candidates : Option (List Candidate)) → DevicesTell D.tells bay → Opens D.held script.now bay candidates
         → IfErr result.0 (λ how. OnceSwitched (λ opened. Tells D.held D.faults script.now candidates how opened result.1 ⊥ [] []) bay) }
+    ensures prints { OnOk result.0 (OnceSwitched (λ opened. HavePrinted D.Disk script.now.config script.now.actions opened lines.new.items result.1) bay) }
     ensures how { IfErr result.0 (λ how. (how ≡ Status.NoMemory) ⊎ (how ≡ Status.Stopped)) }
+    ensures unstopped { NoneSingle script.now.config script.now.actions → IfErr result.0 (λ how. how ≡ Status.NoMemory) }
     ensures keeps { OnceSwitched (λ opened. LeavesBay D.Disk script.now.config (NoneKilled script.now.actions) opened result.1) bay }
     ensures all { length bay ≡ devices }
 {

@@ -3,6 +3,7 @@ ghost use Rattle.std.specs.Prelude.{◌≡◌, ◌++◌, All, List, None, Option
 ghost use Rattle.tmf_model.specs.Config.{IsValidConfig};
 ghost use Rattle.tmf_model.specs.Script.{IsValidAction};
 ghost use Rattle.tmf_lines.specs.declared.line.Line.{Line};
+ghost use Rattle.tmf_cli.specs.AnyDevices.{EndsPlaying, EndsPrinting, HasPrinted, PrintsWhole};
 ghost use Rattle.tmf_cli.specs.BetweenActions.{IsBounded, Knows, LeavesBay, node_of};
 ghost use Rattle.tmf_lines.specs.Line.{lines_text};
 ghost use Rattle.tmf_cli.specs.ActionGiven.{EndsAction, EndsScript, HasPlayed, KeepsSink};
@@ -42,6 +43,8 @@ fn play_action<R: Threads + Wait + Sync, K: Sink, D: Disk + Send>(
         → IfErr result.0 (λ end. EndsAction D.held D.faults config.now action.now (node_of state.old candidates) bay result.1 end (IsTrue (K.tells sink.old)) (K.given sink.old) (K.given sink.new)) }
     ensures given { IsTrue (K.tells sink.old)
         → MatchResult result.0 (λ _. (lines : List Line) × (K.given sink.new ≡ K.given sink.old ++ lines_text lines)) (λ end. IsAnyGiven end (K.given sink.old) (K.given sink.new)) }
+    ensures prints { MatchResult result.0 (λ _. HasPrinted D.Disk config.now action.now state.old bay state.new result.1 (IsTrue (K.tells sink.old)) (K.given sink.old) (K.given sink.new))
+        (λ end. EndsPrinting D.Disk config.now action.now state.old bay result.1 end (IsTrue (K.tells sink.old)) (K.given sink.old) (K.given sink.new)) }
     ensures small { OnOk result.0 (IsBounded state.new.up) }
     ensures keeps { LeavesBay D.Disk config.now (kill_of action.now ≡ None) bay result.1 }
     ensures keeps_sink { KeepsSink K.Sink sink.old sink.new }
@@ -74,6 +77,8 @@ pub fn play<R: Threads + Wait + Sync, K: Sink, D: Disk + Send>(
     ensures ended { (candidates : Option (List Candidate)) → DevicesTell D.tells bay → Knows D.held config.now (opening candidates) bay
         → IfErr result.0 (λ end. EndsScript D.held D.faults config.now (opening candidates) actions.now bay result.1 end (IsTrue (K.tells sink.old)) (K.given sink.old) (K.given sink.new)) }
     ensures given { IsTrue (K.tells sink.old) → IfErr result.0 (λ end. IsAnyGiven end (K.given sink.old) (K.given sink.new)) }
+    ensures prints { MatchResult result.0 (λ _. PrintsWhole D.Disk config.now actions.now bay result.1 (IsTrue (K.tells sink.old)) (K.given sink.old) (K.given sink.new))
+        (λ end. EndsPlaying D.Disk config.now actions.now bay result.1 end (IsTrue (K.tells sink.old)) (K.given sink.old) (K.given sink.new)) }
     ensures keeps { LeavesBay D.Disk config.now (NoneKilled actions.now) bay result.1 }
     ensures keeps_sink { KeepsSink K.Sink sink.old sink.new }
     ensures cause { IfErr result.0 (λ end. IsEndCaused (HasFailed D.faults config.now bay result.1) end (K.faults sink.old) (K.faults sink.new)) }

@@ -3,6 +3,7 @@ ghost use Rattle.std.specs.Prelude.{◌≡◌, [], List, Option, None, IfErr, If
 ghost use Rattle.disk_model.specs.Devices.{DevicesTell};
 ghost use Rattle.tmf_model.specs.Config.{IsDeclared, IsValidConfig};
 ghost use Rattle.tmf_model.specs.declared.script.Action.TheVariants.{Rollforward as RollAction};
+ghost use Rattle.tmf_cli.specs.AnyDevices.{Prints};
 ghost use Rattle.tmf_cli.specs.BetweenActions.{HasBroken, HasDone, IsBounded, Knows, LeavesBay, node_of};
 ghost use Rattle.tmf_cli.specs.Countdown.{IsOff};
 ghost use Rattle.tmf_cli.specs.OutputLaw.{Candidate, IsRollLine};
@@ -34,6 +35,7 @@ pub fn act_rollforward<D: Disk>(
         → IfOk result (λ lines. HasDone D.held D.faults config.now (RollAction volume kill) (node_of state.old candidates) bay.old lines.items state.new bay.new) }
     ensures broken { (candidates : Option (List Candidate)) → DevicesTell D.tells bay.old → Knows D.held config.now (node_of state.old candidates) bay.old
         → IfErr result (λ stop. HasBroken D.held D.faults config.now (RollAction volume kill) (node_of state.old candidates) bay.old [] stop bay.new) }
+    ensures prints { IfOk result (λ lines. Prints D.Disk config.now (RollAction volume kill) state.old bay.old lines.items state.new bay.new) }
     ensures small { OnOk result (IsBounded state.new.up) }
     ensures keeps { LeavesBay D.Disk config.now (kill ≡ None) bay.old bay.new }
     ensures memory { IfErr result (λ stop. stop ≡ Stop.NoMemory) }

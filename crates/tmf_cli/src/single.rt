@@ -1,5 +1,5 @@
 //! Runs of one worker, whose items are transactions, which are not cut off, and whose limit of events no line of the script lowers.
-ghost use Rattle.std.specs.Prelude.{◌≡◌, ◌≤◌, ◌^◌, ℕ, [], List, Option, Some, Err, IfErr, OnOk};
+ghost use Rattle.std.specs.Prelude.{◌≡◌, ◌≤◌, ◌^◌, ℕ, [], List, Option, Some, Err, IfErr, MatchResult, OnOk};
 ghost use Rattle.std.specs.Bool.{Decides};
 ghost use Rattle.std.specs.List.{list_all};
 ghost use Rattle.disk_model.specs.Devices.{AreLater, DevicesTell};
@@ -7,6 +7,7 @@ ghost use Rattle.tmf_model.specs.Config.{IsValidConfig};
 ghost use Rattle.tmf_model.specs.Script.{IsValidPhase};
 ghost use Rattle.tmf_model.specs.declared.script.Action.TheVariants.{Run as RunAction};
 ghost use Rattle.tmf_cli.specs.declared.node.NodeState.{NodeState};
+ghost use Rattle.tmf_cli.specs.AnyDevices.{HaltsRun, PrintsSingle};
 ghost use Rattle.tmf_cli.specs.BetweenActions.{HasBroken, HasDone, Knows, SameOthers, end_of_run, node_of};
 ghost use Rattle.tmf_cli.specs.Lost.{up_for};
 ghost use Rattle.tmf_cli.specs.OutputLaw.{Candidate, HasFailed, down};
@@ -106,6 +107,8 @@ pub fn act_single<D: Disk>(
         → OnOk result.0 (HasDone D.held D.faults config.now (RunAction phase.now) (node_of state candidates) bay lines.new.items (down state) result.1) }
     ensures broken { (state : NodeState) (candidates : Option (List Candidate)) → up_for config.now phase.now state ≡ Some up → DevicesTell D.tells bay → Knows D.held config.now (node_of state candidates) bay
         → IfErr result.0 (λ stop. HasBroken D.held D.faults config.now (RunAction phase.now) (node_of state candidates) bay lines.new.items stop result.1) }
+    ensures prints { (state : NodeState) → up_for config.now phase.now state ≡ Some up
+        → MatchResult result.0 (λ _. PrintsSingle D.Disk config.now phase.now state lines.new.items (down state)) (λ why. HaltsRun D.Disk config.now why phase.now state lines.new.items) }
     ensures keeps { AreLater D.Disk bay result.1 }
     ensures others { SameOthers config.now bay result.1 }
     ensures cause { (device : ℕ) → result.0 ≡ Err (Stop.Failed device) → HasFailed D.faults config.now bay result.1 device }

@@ -1,10 +1,11 @@
 //! Runs on threads: several workers at once, control points and dumps, and runs that are cut off.
-ghost use Rattle.std.specs.Prelude.{◌≡◌, ◌≤◌, [], List, Option, Some, None, MatchResult, IfErr, IfOk};
+ghost use Rattle.std.specs.Prelude.{◌≡◌, ◌⊎◌, ◌≤◌, [], List, Option, Some, None, MatchResult, IfErr, IfOk};
 ghost use Rattle.disk_model.specs.Devices.{DevicesTell};
 ghost use Rattle.tmf_model.specs.Config.{IsValidConfig};
 ghost use Rattle.tmf_model.specs.Script.{IsValidPhase};
 ghost use Rattle.tmf_model.specs.declared.script.Action.TheVariants.{Run as RunAction};
 ghost use Rattle.tmf_cli.specs.declared.node.NodeState.{NodeState};
+ghost use Rattle.tmf_cli.specs.AnyDevices.{PrintsNoRun, PrintsRun};
 ghost use Rattle.tmf_cli.specs.BetweenActions.{HasBroken, HasDone, Knows, LeavesBay, node_of};
 ghost use Rattle.tmf_cli.specs.Countdown.{IsOff};
 ghost use Rattle.tmf_cli.specs.Lost.{up_for};
@@ -93,6 +94,8 @@ pub fn act_threads<R: Threads + Wait + Sync, D: Disk + Send>(
         → IfOk result.0 (λ lines. HasDone D.held D.faults config.now (RunAction phase.now) (node_of state candidates) bay lines.items (down state) result.1) }
     ensures broken { (state : NodeState) (candidates : Option (List Candidate)) → up_for config.now phase.now state ≡ Some up → ¬ IsSingle config.now phase.now → DevicesTell D.tells bay → Knows D.held config.now (node_of state candidates) bay
         → IfErr result.0 (λ stop. HasBroken D.held D.faults config.now (RunAction phase.now) (node_of state candidates) bay [] stop result.1) }
+    ensures prints { (state : NodeState) → up_for config.now phase.now state ≡ Some up
+        → IfOk result.0 (λ lines. PrintsRun D.Disk config.now phase.now state bay lines.items (down state) result.1 ⊎ PrintsNoRun D.Disk config.now phase.now state bay lines.items (down state) result.1) }
     ensures keeps { LeavesBay D.Disk config.now (phase.now.kill ≡ None) bay result.1 }
     ensures memory { IfErr result.0 (λ stop. stop ≡ Stop.NoMemory) }
 {

@@ -7,6 +7,7 @@ ghost use Rattle.tmf_model.specs.Script.{IsValidScript};
 ghost use Rattle.tmf_model.specs.declared.script.Script.{Script};
 ghost use Rattle.tmf_cli.specs.declared.status.Status.{Status};
 ghost use Rattle.tmf_cli.specs.ActionGiven.{KeepsSink};
+ghost use Rattle.tmf_cli.specs.AnyDevices.{PrintsBy, PrintsOfSome};
 ghost use Rattle.tmf_cli.specs.Bank.{AnswersBank};
 ghost use Rattle.tmf_cli.specs.BetweenActions.{LeavesBay, OthersRestarted};
 ghost use Rattle.tmf_cli.specs.Call.{AnswersText, AnswersUsage, HasStatus, KeepsBay, KeepsOn};
@@ -16,10 +17,11 @@ ghost use Rattle.tmf_cli.specs.Faultless.{IsFaultlessOutput, IsKnown};
 ghost use Rattle.tmf_cli.specs.Headline.{KeepsEveryCommit};
 ghost use Rattle.tmf_lines.specs.Line.{lines_text};
 ghost use Rattle.tmf_cli.specs.Single.{AreSingle};
+ghost use Rattle.tmf_cli.specs.Status.{code_of};
 ghost use Rattle.tmf_lines.specs.Script.{IsRefusalOf, IsScriptOf};
 ghost use Rattle.tmf_cli.specs.OneOutput.{FormatsFirst, IsTheOutput, NoneRose};
 ghost use Rattle.tmf_cli.specs.OutputLaw.{HasFailed, Candidate};
-ghost use Rattle.tmf_cli.specs.Top.{read_limit, stop_lines, IsStatusCaused, IsUnreadCaused, IsGiven, EndsStopped, SaysWhy, TellsRefusal, IsScript, Opens, Tells, TellsBy};
+ghost use Rattle.tmf_cli.specs.Top.{IsPlayed, read_limit, stop_lines, IsStatusCaused, IsUnreadCaused, IsGiven, EndsStopped, SaysWhy, TellsRefusal, IsScript, Opens, Tells, TellsBy};
 ghost use Rattle.tmf_words.specs.Words.{are_accepted, bank_of, is_run};
 ghost use Rattle.disk_model.specs.Devices.{DevicesTell, FuseRestarts};
 
@@ -37,7 +39,7 @@ use tmf_lines::{
     DeviceTrouble, GiveFault, Line, ScriptRefusal, device_name, give_lines, read_script,
 };
 use tmf_model::{Config, Script};
-use tmf_words::{accepts, bank_of};
+use tmf_words::{Asked, accepts, asked_by};
 
 /// The most bytes that are read of a script: one more than it may have.
 const READ_LIMIT: usize = 4_194_305;
@@ -96,6 +98,7 @@ fn carry_out<R: Threads + Wait + Sync, K: Sink, D: Disk + Send>(
         → OnceSwitched (λ opened. Tells D.held D.faults script.now candidates result.0 opened result.1 (IsTrue (K.tells sink.old)) (K.given sink.old) (K.given sink.new)) bay }
     ensures stopped { DevicesTell D.tells bay → result.0 ≡ Status.Stopped → (device : ℕ) × HasFailed D.faults script.now.config bay result.1 device }
     ensures ends { IsTrue (K.tells sink.old) → result.0 ≡ Status.Stopped → EndsStopped script.now.config (HasFailed D.faults script.now.config bay result.1) (K.given sink.old) (K.given sink.new) }
+    ensures prints { OnceSwitched (λ opened. PrintsBy D.Disk script.now.config script.now.actions (code_of result.0) opened result.1 (IsTrue (K.tells sink.old)) (K.given sink.old) (K.given sink.new)) bay }
     ensures keeps { OnceSwitched (λ opened. LeavesBay D.Disk script.now.config (NoneKilled script.now.actions) opened result.1) bay }
     ensures keeps_sink { KeepsSink K.Sink sink.old sink.new }
     ensures cause { IsStatusCaused result.0 (K.faults sink.old) (K.faults sink.new) }
@@ -184,6 +187,9 @@ fn run_script<R: Threads + Wait + Sync, S: Source, K: Sink, D: Disk + Send>(
 ) -> (Status, Bay<D>)
     ensures told { (script : Script) (candidates : Option (List Candidate)) → IsScriptOf script (take read_limit (S.rest source.old)) → IsTrue (S.tells source.old) → DevicesTell D.tells bay
         → Opens D.held script bay candidates → OnceSwitched (λ opened. Tells D.held D.faults script candidates result.0 opened result.1 (IsTrue (K.tells sink.old)) (K.given sink.old) (K.given sink.new)) bay }
+    ensures prints { (script : Script) → IsScriptOf script (take read_limit (S.rest source.old)) → IsTrue (S.tells source.old)
+        → OnceSwitched (λ opened. PrintsBy D.Disk script.config script.actions (code_of result.0) opened result.1 (IsTrue (K.tells sink.old)) (K.given sink.old) (K.given sink.new)) bay }
+    ensures prints_some { (result.0 ≡ Status.Done) ⊎ (result.0 ≡ Status.SinkFailed) ⊎ (result.0 ≡ Status.Stopped) → PrintsOfSome D.Disk (code_of result.0) bay result.1 (IsTrue (S.tells source.old)) (take read_limit (S.rest source.old)) (IsTrue (K.tells sink.old)) (K.given sink.old) (K.given sink.new) }
     ensures stopped { (script : Script) → IsScriptOf script (take read_limit (S.rest source.old)) → IsTrue (S.tells source.old) → DevicesTell D.tells bay
         → result.0 ≡ Status.Stopped → (device : ℕ) × HasFailed D.faults script.config bay result.1 device }
     ensures unrefused { (script : Script) → IsScriptOf script (take read_limit (S.rest source.old)) → IsTrue (S.tells source.old) → result.0 ≢ Status.Refused }
@@ -261,6 +267,14 @@ pub fn tmf<R: Threads + Wait + Sync, S: Source, K: Sink, D: Disk + Send>(
         → IsTrue (S.tells source.old) → DevicesTell D.tells bay → Opens D.held script bay candidates
         → OnceSwitched (λ opened. TellsBy D.held D.faults script candidates result.0 opened result.1 (IsTrue (K.tells sink.old)) (K.given sink.old) (K.given sink.new)) bay }
 
+    // The same over any devices, also those that do not tell what they hold, as the files of a folder: action by action a script prints what the node's state allows. The outcomes of a run on threads are those of one
+    // history; those of a single run are its items' on some map, each with its identifier and place; and a line that tells of a failed device has that failure for its cause, no device more often than it failed.
+    ensures prints { (script : Script) → is_run (map string_bytes words.now) ≡ true → IsScriptOf script (take read_limit (S.rest source.old)) → IsTrue (S.tells source.old)
+        → OnceSwitched (λ opened. PrintsBy D.Disk script.config script.actions result.0 opened result.1 (IsTrue (K.tells sink.old)) (K.given sink.old) (K.given sink.new)) bay }
+
+    // So also where the source does not tell its text, as standard input: where actions were carried out, they are those of some valid script.
+    ensures prints_some { is_run (map string_bytes words.now) ≡ true → IsPlayed result.0 → PrintsOfSome D.Disk result.0 bay result.1 (IsTrue (S.tells source.old)) (take read_limit (S.rest source.old)) (IsTrue (K.tells sink.old)) (K.given sink.old) (K.given sink.new) }
+
     // Of a script that formats first, and whose runs are single, where no device fails and the status is 0, the output is the one that the script determines, whatever devices were handed in.
     ensures one_output { (script : Script) → is_run (map string_bytes words.now) ≡ true → IsScriptOf script (take read_limit (S.rest source.old)) → IsTrue (S.tells source.old) → IsTrue (K.tells sink.old)
         → DevicesTell D.tells bay → FormatsFirst script → AreSingle script.config script.actions → NoneRose D.faults bay result.1 → result.0 ≡ 0 → IsTheOutput D.held D.faults script (K.given sink.old) (K.given sink.new) }
@@ -285,8 +299,12 @@ pub fn tmf<R: Threads + Wait + Sync, S: Source, K: Sink, D: Disk + Send>(
         left_alone(&bay);
         return (tell(alloc, sink, Line::Usage, Status::Usage).code(), bay);
     }
+    let Ok(asked) = asked_by(alloc, words) else {
+        left_alone(&bay);
+        return (Status::NoMemory.code(), bay);
+    };
     let means = Means { rt, alloc };
-    if let Some(transfers) = bank_of(words) {
+    if let Asked::Bank(transfers) = asked {
         let (status, bay) = run_bank(means, transfers, sink, bay);
         return (status.code(), bay);
     }

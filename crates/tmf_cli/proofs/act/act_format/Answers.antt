@@ -11,6 +11,7 @@ use Rattle.disk_model.specs.Devices.{held_at}
 use Rattle.tmf_cli.proofs.Acts.{formatted-knows, if-ok}
 use Rattle.tmf_cli.proofs.Bays.{held-is}
 use Rattle.tmf_cli.proofs.Dumps.{dumps-formatted}
+use Rattle.tmf_cli.specs.AnyDevices.{Prints}
 use Rattle.tmf_cli.proofs.act.act_format.Goals as goal
 
 pub returns-in-Ok-clause-done : goal.returns-in-Ok-clause-done
@@ -45,3 +46,17 @@ returns-in-Err-Failed-clause-done g c = λ candidates tell.
 
 pub returns-in-Err-NoMemory-clause-broken : goal.returns-in-Err-NoMemory-clause-broken
 returns-in-Err-NoMemory-clause-broken g c = λ candidates. record { after = unformatted_node (node_of c.args.state.now candidates); due = []; why = run.Stopped NoMemory; ends = tt; breaks = (refl, refl, refl); made = inl refl; stands = tt; run = inl refl; undamaged = tt }
+
+pub returns-in-Ok-clause-prints : goal.returns-in-Ok-clause-prints
+returns-in-Ok-clause-prints g c =
+    if-ok (λ lines. lines.items ≡ Formatted ∷ []) (λ lines. Prints g.D.Disk c.args.config.now Format c.args.state.now c.args.bay.now lines.items c.formatted.result c.format_node.new.bay)
+    (λ stop. stop ≡ NoMemory) (λ stop. Unit {0}) c.one_line.result c.one_line.ensures (λ lines is. inl (is, c.formatted.ensures))
+
+pub returns-in-Err-Failed-clause-prints : goal.returns-in-Err-Failed-clause-prints
+returns-in-Err-Failed-clause-prints g c =
+    let device = c.in-Err-Failed.device in
+    let cause = c.format_node.ensures.cause device (c.in-Err-Failed.is ∙ ap Err c.in-Err-Failed.field-0-is) in
+    if-ok (λ lines. lines.items ≡ format_failure c.args.config.now device ∷ []) (λ lines. Prints g.D.Disk c.args.config.now Format c.args.state.now c.args.bay.now lines.items c.unformatted.result c.format_node.new.bay)
+    (λ stop. stop ≡ NoMemory) (λ stop. Unit {0}) c.one_line-in-Err-Failed.result
+    (subst (λ line. MatchResult c.one_line-in-Err-Failed.result (λ lines. lines.items ≡ line ∷ []) (λ stop. stop ≡ NoMemory)) c.format_failure.ensures c.one_line-in-Err-Failed.ensures)
+    (λ lines is. inr ((device, cause, is), c.unformatted.ensures))

@@ -1,5 +1,5 @@
 use Rattle.std.specs.Prelude.{Err}
-use Rattle.std.proofs.Common.{rules, ◌≡◌, [], ◌∷◌, ap, ◌∙◌}
+use Rattle.std.proofs.Common.{rules, ◌≡◌, [], ◌∷◌, inl, inr, refl, ap, ◌∙◌}
 use Rattle.tmf_model.specs.declared.script.Action.TheVariants.{List as ListAction}
 use Rattle.disk_model.specs.Devices.{held_at}
 use Rattle.trail_replay.specs.declared.stop.Stop.TheVariants.{NoMemory}
@@ -9,6 +9,7 @@ use Rattle.tmf_cli.specs.Lost.{up_with}
 use Rattle.tmf_cli.proofs.Acts.{broken-listing, listed-done, unlisted-done, if-ok, some-found}
 use Rattle.tmf_cli.proofs.Bays.{held-is}
 use Rattle.tmf_cli.proofs.Resting.{list-others}
+use Rattle.tmf_cli.specs.AnyDevices.{Prints}
 use Rattle.tmf_cli.proofs.act.act_list.Goals as goal
 
 pub returns-in_err-listing_lines-in-Ok-clause-broken : goal.returns-in_err-listing_lines-in-Ok-clause-broken
@@ -55,3 +56,32 @@ returns-in_err-line-in-Err-clause-others g c = list-others c.args.config.now c.a
 
 pub returns-in_ok-line-in-Err-clause-others : goal.returns-in_ok-line-in-Err-clause-others
 returns-in_ok-line-in-Err-clause-others g c = list-others c.args.config.now c.args.file c.args.bay.now c.list_file.new.bay c.requires.valid c.requires.declared c.list_file.ensures.others
+
+pub returns-in_ok-listing_lines-in-Ok-clause-prints : goal.returns-in_ok-listing_lines-in-Ok-clause-prints
+returns-in_ok-listing_lines-in-Ok-clause-prints g c =
+    inr (
+      some-found c.up_with.result (up_with c.args.config.now c.args.file c.args.state) c.up_with.ensures (search rules),
+      refl,
+      c.list_file.ensures.others,
+      inl (
+        c.in-Ok.entries.items,
+        c.in_ok-listing_lines-in-Ok.ensures ∙ ap (listed_lines c.file_name-name.result) c.deref.ensures.value ∙ ap (λ name. listed_lines name c.in-Ok.entries.items) c.file_name-name.ensures,
+      ),
+    )
+
+pub returns-in_ok-line-in-Err-clause-prints : goal.returns-in_ok-line-in-Err-clause-prints
+returns-in_ok-line-in-Err-clause-prints g c =
+    if-ok (λ lines. lines.items ≡ c.in_ok-line-in-Err.line ∷ []) (λ lines. Prints g.D.Disk c.args.config.now (ListAction c.args.file) c.args.state c.args.bay.now lines.items c.args.state c.list_file.new.bay)
+    (λ stop. stop ≡ NoMemory) (λ stop. Unit {0}) c.one_line-in-Err.result c.one_line-in-Err.ensures
+    (λ lines one. inr (
+      some-found c.up_with.result (up_with c.args.config.now c.args.file c.args.state) c.up_with.ensures (search rules),
+      refl,
+      c.list_file.ensures.others,
+      inr (record {
+        error = c.in-Err.error;
+        line = c.in_ok-line-in-Err.line;
+        is_line = c.in_ok-line-in-Err.ensures;
+        printed = one;
+        failed = λ number e. c.list_file.ensures.cause number (c.in-Err.is ∙ ap Err e);
+      }),
+    ))

@@ -1,7 +1,8 @@
-use Rattle.std.proofs.Common.{rules, [], ◌∷◌, ap, ◌∙◌}
+use Rattle.std.proofs.Common.{rules, [], ◌∷◌, inl, inr, refl, ap, ◌∙◌}
 use Rattle.tmf_lines.specs.declared.line.Line.TheVariants.{Removed, LoseFailed}
 use Rattle.tmf_cli.specs.OutputLaw.{LeavesLost}
 use Rattle.tmf_cli.proofs.VolumeLoss.{lost-broken, lost-done, lost-others, unlost-done}
+use Rattle.volume_recovery.specs.VolumeNode.{volume_device}
 use Rattle.tmf_cli.proofs.act.act_lose.Goals as goal
 
 pub returns-in_err-removed-clause-broken : goal.returns-in_err-removed-clause-broken
@@ -29,3 +30,9 @@ returns-in-Ok-clause-others g c = lost-others c.args.config.now c.args.volume c.
 
 pub returns-in-Err-clause-others : goal.returns-in-Err-clause-others
 returns-in-Err-clause-others g c = lost-others c.args.config.now c.args.volume c.args.bay.now c.lose.new.bay c.requires.declared c.lose.ensures.others
+
+pub returns-in-Ok-clause-prints : goal.returns-in-Ok-clause-prints
+returns-in-Ok-clause-prints g c = (c.down.ensures, c.lose.ensures.others, inl (c.in_ok-removed.ensures ∙ ap (λ name. Removed name ∷ []) c.volume_name-name.ensures))
+
+pub returns-in-Err-clause-prints : goal.returns-in-Err-clause-prints
+returns-in-Err-clause-prints g c = (c.down.ensures, c.lose.ensures.others, inr (volume_device c.args.volume, (refl, c.in-Err.ensures.cause), c.in_ok-failed.ensures ∙ ap (λ name. LoseFailed name ∷ []) c.volume_name-name.ensures))

@@ -1,5 +1,5 @@
 use Rattle.std.specs.Prelude.{Err}
-use Rattle.std.proofs.Common.{rules, ◌≡◌, [], ◌∷◌, ap, ◌∙◌}
+use Rattle.std.proofs.Common.{rules, ◌≡◌, [], ◌∷◌, inl, refl, ap, ◌∙◌}
 use Rattle.tmf_model.specs.declared.script.Action.TheVariants.{Recover as RecoverAction}
 use Rattle.trail_replay.specs.declared.stop.Stop.TheVariants.{NoMemory}
 use Rattle.tmf_lines.specs.Report.{recovered_lines}
@@ -8,6 +8,10 @@ use Rattle.tmf_cli.proofs.Acts.{Texts, broken-recovery, untouched-stopped, whole
 use Rattle.tmf_cli.proofs.Countdowns.{leaves-same}
 use Rattle.tmf_cli.proofs.Resting.{leaves-ready}
 use Rattle.tmf_cli.proofs.Undamaged.{undamaged-stand}
+use Rattle.tmf_lines.specs.declared.line.ActionKind.TheVariants as asked
+use Rattle.tmf_lines.specs.declared.line.Line.TheVariants.{NotUp}
+use Rattle.tmf_cli.specs.AnyDevices.{Prints}
+use Rattle.tmf_cli.proofs.AnyDevices.{recovered-prints, refused-prints}
 use Rattle.tmf_cli.proofs.act.act_recover.Goals as goal
 
 pub returns-then-not-state-clause-broken : goal.returns-then-not-state-clause-broken
@@ -59,3 +63,23 @@ returns-in_ok-line-in-Err-clause-broken g c = λ candidates tell knows.
 
 pub returns-then-not-state-clause-keeps : goal.returns-then-not-state-clause-keeps
 returns-then-not-state-clause-keeps g c = leaves-same g.D.Disk g.met.D.Disk.same_itself c.args.config.now _ c.args.bay.now c.requires.off
+
+pub returns-then-not-state-clause-prints : goal.returns-then-not-state-clause-prints
+returns-then-not-state-clause-prints g c =
+    if-ok (λ lines. lines.items ≡ NotUp asked.Recover ∷ []) (λ lines. Prints g.D.Disk c.args.config.now (RecoverAction c.args.kill) c.args.state.now c.args.bay.now lines.items c.args.state.now c.args.bay.now)
+    (λ stop. stop ≡ NoMemory) (λ stop. Unit {0}) c.one_line.result c.one_line.ensures (λ lines is. inl (search rules, (is, refl, refl)))
+
+pub returns-in_ok-lines-in-Ok-clause-prints : goal.returns-in_ok-lines-in-Ok-clause-prints
+returns-in_ok-lines-in-Ok-clause-prints g c =
+    let found = c.in-Ok.recovered in
+    recovered-prints g.D.Disk c.args.config.now c.args.kill c.args.state.now c.recovered.result c.args.bay.now c.recover_within.new.bay found c.in_ok-lines-in-Ok.lines.items (search rules) c.in-Ok.ensures.begun (search rules)
+    (c.in_ok-lines-in-Ok.ensures ∙ ap (λ rs. recovered_lines c.args.config.now c.args.state.now.printed rs c.as_slice-lost.result.now found.epoch) c.as_slice-records.ensures
+    ∙ ap (λ ls. recovered_lines c.args.config.now c.args.state.now.printed found.records ls found.epoch) c.as_slice-lost.ensures)
+    (search rules)
+
+pub returns-in_ok-line-in-Err-clause-prints : goal.returns-in_ok-line-in-Err-clause-prints
+returns-in_ok-line-in-Err-clause-prints g c =
+    if-ok (λ lines. lines.items ≡ c.in_ok-line-in-Err.line ∷ []) (λ lines. Prints g.D.Disk c.args.config.now (RecoverAction c.args.kill) c.args.state.now c.args.bay.now lines.items c.down.result c.recover_within.new.bay)
+    (λ stop. stop ≡ NoMemory) (λ stop. Unit {0}) c.one_line-in-Err.result c.one_line-in-Err.ensures
+    (λ lines one. refused-prints g.D.Disk c.args.config.now c.args.kill c.args.state.now c.down.result c.args.bay.now c.recover_within.new.bay c.in-Err.error c.in_ok-line-in-Err.line lines.items (search rules) c.in_ok-line-in-Err.ensures
+    (λ number e. c.recover_within.ensures.cause number (c.in-Err.is ∙ ap Err e)) one c.down.ensures)

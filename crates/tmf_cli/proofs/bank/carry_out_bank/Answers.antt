@@ -1,4 +1,4 @@
-use Rattle.std.specs.Prelude.{IfErr, None, OnOk}
+use Rattle.std.specs.Prelude.{IfErr, MatchResult, None, OnOk}
 use Rattle.std.proofs.Common.{◌≢◌, [], ⊎_elim, false, inl, inr, sym, ap, subst, ◌∙◌}
 use Rattle.disk_model.proofs.Devices.{tell-then}
 use Rattle.tmf_lines.specs.declared.output.GiveFault.TheVariants.{SinkFailed}
@@ -13,6 +13,8 @@ use Rattle.tmf_cli.proofs.Banks.{end-how, ended-so}
 use Rattle.tmf_cli.proofs.Countdowns.{set-off, set-switches, switched-tells}
 use Rattle.tmf_cli.proofs.Endings.{opens-knows}
 use Rattle.tmf_cli.proofs.Openings.{opens-switched}
+use Rattle.tmf_cli.specs.AnyDevices.{EndsPlaying, HavePrinted}
+use Rattle.tmf_cli.proofs.AnyDevices.{unsingle-ends}
 use Rattle.tmf_cli.proofs.bank.carry_out_bank.Goals as goal
 
 pub returns-in-Ok-clause-told : goal.returns-in-Ok-clause-told
@@ -71,3 +73,28 @@ returns-in-Err-clause-keeps g c =
       set-off c.args.bay c.disarm.new.self c.disarm.ensures.each,
       subst (λ actions. LeavesBay g.D.Disk c.args.script.now.config (NoneKilled actions) c.disarm.new.self c.collect-collected.result.1) c.as_slice.ensures c.collect-collected.ensures.keeps,
     )
+
+pub returns-in-Ok-clause-prints : goal.returns-in-Ok-clause-prints
+returns-in-Ok-clause-prints g c =
+    let config = c.args.script.now.config in
+    let opened = c.disarm.new.self in
+    let new = c.collect-collected.result.1 in
+    inr (
+      opened,
+      set-switches false c.args.bay opened c.disarm.ensures.each,
+      set-off c.args.bay opened c.disarm.ensures.each,
+      subst (λ actions. HavePrinted g.D.Disk config actions opened c.collect-collected.new.lines.items new) c.as_slice.ensures
+          (subst (λ r. MatchResult r (λ _. HavePrinted g.D.Disk config c.as_slice.result.now opened c.collect-collected.new.lines.items new) (λ end. EndsPlaying g.D.Disk config c.as_slice.result.now opened new end ⊥ [] []))
+          c.in-Ok.is c.collect-collected.ensures.prints),
+    )
+
+pub returns-in-Err-clause-unstopped : goal.returns-in-Err-clause-unstopped
+returns-in-Err-clause-unstopped g c = λ none.
+    let config = c.args.script.now.config in
+    let opened = c.disarm.new.self in
+    let new = c.collect-collected.result.1 in
+    c.status_of.ensures
+    ∙ unsingle-ends g.D.Disk config c.args.script.now.actions opened new c.in-Err.end ⊥ [] [] none (subst (λ r. IfErr r (λ end. end ≢ GiveFault SinkFailed)) c.in-Err.is c.collect-collected.ensures.sinkless)
+    (subst (λ actions. EndsPlaying g.D.Disk config actions opened new c.in-Err.end ⊥ [] []) c.as_slice.ensures
+    (subst (λ r. MatchResult r (λ _. HavePrinted g.D.Disk config c.as_slice.result.now opened c.collect-collected.new.lines.items new) (λ end. EndsPlaying g.D.Disk config c.as_slice.result.now opened new end ⊥ [] []))
+    c.in-Err.is c.collect-collected.ensures.prints))

@@ -1,12 +1,14 @@
-use Rattle.std.specs.Prelude.{IfErr, OnOk}
+use Rattle.std.specs.Prelude.{IfErr, MatchResult, OnOk}
 use Rattle.std.specs.List.{AllByRecursion}
 use Rattle.std.proofs.Common.{rules, ◌≡◌, [], ◌∷◌, ◌++◌, refl, sym, ap, subst, ◌∙◌}
 use Rattle.std.proofs.lemmas.List.{append-nil, append_assoc}
 use Rattle.std.proofs.lemmas.List.Elements.{recursion_from_All}
 use Rattle.tmf_model.specs.Script.{IsValidAction}
 use Rattle.tmf_cli.specs.ActionGiven.{EndsAction}
-use Rattle.tmf_cli.specs.Bank.{HasCollected}
+use Rattle.tmf_cli.specs.AnyDevices.{EndsPrinting, PrintsAll, first_state}
+use Rattle.tmf_cli.specs.Bank.{HasCollected, HasGathered}
 use Rattle.tmf_cli.specs.BetweenActions.{IsBounded, node_of}
+use Rattle.tmf_cli.proofs.AnyDevices.{prints-more}
 use Rattle.tmf_cli.proofs.Banks.{Collecting, collected-all, collecting-begin, collecting-more, none-left}
 use Rattle.tmf_cli.proofs.Bays.{tell-on}
 use Rattle.tmf_cli.proofs.Countdowns.{leaves-same, leaves-then, none-killed}
@@ -21,6 +23,7 @@ loop-action-init g c = (
     valid = recursion_from_All (IsValidAction c.args.config.now) c.args.actions.now c.requires.actions;
     small = subst (λ s. IsBounded s.up) (sym c.new-state.ensures) tt;
     keeps = leaves-same g.D.Disk (g.met.D.Disk g.world.𝓛 g.world.𝓜 g.world.𝓡 ((λ s x. x), (λ x. x), (λ x. x), λ x. x)).same_itself c.args.config.now _ c.args.bay c.requires.off;
+    printing = (c.requires.none, c.new-state.ensures, refl);
     collecting = λ candidates tell knows. collecting-begin g.D.Disk.held g.D.Disk.faults c.args.config.now candidates c.args.bay c.args.actions.now c.new-state.result c.args.lines.now.items c.new-state.ensures knows c.requires.none;
   },
 )
@@ -62,6 +65,12 @@ loop-action-preserved g c =
         small = subst (λ r. OnOk r (IsBounded c.collect_action-collected.new.state.up)) c.in_default-collected.is c.collect_action-collected.ensures.small;
         keeps = leaves-then g.D.Disk (g.met.D.Disk g.world.𝓛 g.world.𝓜 g.world.𝓡 ((λ s x. x), (λ x. x), (λ x. x), λ x. x)).same_on c.args.config.now _ _ _ (λ none. none) (none-killed c.args.actions.now done more action (had.parts ∙ ap (λ rest. done ++ rest) first))
             c.args.bay c.loop-action.bay new had.keeps c.collect_action-collected.ensures.keeps;
+        printing =
+            let next = subst (λ r. MatchResult r (λ _. HasGathered g.D.Disk c.args.config.now action c.loop-action.state c.loop-action.bay c.loop-action.lines.items c.collect_action-collected.new.lines.items c.collect_action-collected.new.state new)
+            (λ end. EndsPrinting g.D.Disk c.args.config.now action c.loop-action.state c.loop-action.bay new end ⊥ [] [])) c.in_default-collected.is c.collect_action-collected.ensures.prints in
+            subst (λ ls. PrintsAll g.D.Disk c.args.config.now (done ++ action ∷ []) first_state c.args.bay ls c.collect_action-collected.new.state new) (sym next.behind)
+            (prints-more g.D.Disk c.args.config.now done action first_state c.loop-action.state c.collect_action-collected.new.state c.args.bay c.loop-action.bay new c.loop-action.lines.items next.lines had.printing next.prints
+            c.collect_action-collected.ensures.keeps.counts);
         collecting = λ candidates tell knows.
             let collecting : Collecting g.D.Disk.held g.D.Disk.faults c.args.config.now candidates c.args.bay done (action ∷ more) c.loop-action.state c.loop-action.bay c.loop-action.lines.items =
             subst (λ rest. Collecting g.D.Disk.held g.D.Disk.faults c.args.config.now candidates c.args.bay done rest c.loop-action.state c.loop-action.bay c.loop-action.lines.items) first (had.collecting candidates tell knows) in
@@ -82,3 +91,35 @@ returns-clause-told g c = λ candidates tell knows.
     collected-all g.D.Disk.held g.D.Disk.faults c.args.config.now candidates c.args.bay c.args.actions.now done c.loop-action.state c.loop-action.bay c.loop-action.lines.items
     (had.parts ∙ ap (λ rest. done ++ rest) over ∙ append-nil done)
     (subst (λ rest. Collecting g.D.Disk.held g.D.Disk.faults c.args.config.now candidates c.args.bay done rest c.loop-action.state c.loop-action.bay c.loop-action.lines.items) over (had.collecting candidates tell knows))
+
+pub returns-clause-prints : goal.returns-clause-prints
+returns-clause-prints g c =
+    let done = c.loop-action.invariant.0 in
+    let had = c.loop-action.invariant.1 in
+    let over = none-left c.loop-action.rest.now c.in_default.ensures.cases in
+    let all = had.parts ∙ ap (λ rest. done ++ rest) over ∙ append-nil done in
+    (c.loop-action.state, subst (λ actions. PrintsAll g.D.Disk c.args.config.now actions first_state c.args.bay c.loop-action.lines.items c.loop-action.state c.loop-action.bay) (sym all) had.printing)
+
+pub returns-in-Err-clause-prints : goal.returns-in-Err-clause-prints
+returns-in-Err-clause-prints g c =
+    let had = c.loop-action.invariant.1 in
+    let action = c.in-Some.action.now in
+    let new = c.collect_action-collected.result.1 in
+    let ended = subst (λ r. MatchResult r (λ _. HasGathered g.D.Disk c.args.config.now action c.loop-action.state c.loop-action.bay c.loop-action.lines.items c.collect_action-collected.new.lines.items c.collect_action-collected.new.state new)
+    (λ end. EndsPrinting g.D.Disk c.args.config.now action c.loop-action.state c.loop-action.bay new end ⊥ [] [])) c.in-Err.is c.collect_action-collected.ensures.prints in
+    record {
+      reached = record {
+        done = c.loop-action.invariant.0;
+        action = action;
+        rest = c.in-Some.more.now;
+        parts = had.parts ∙ ap (λ rest. c.loop-action.invariant.0 ++ rest) c.in-Some.ensures.cases.0;
+        lines = c.loop-action.lines.items;
+        middle = c.loop-action.state;
+        between = c.loop-action.bay;
+        told = had.printing;
+      };
+      more = ended.lines;
+      ends = ended.ends;
+      counts = c.collect_action-collected.ensures.keeps.counts;
+      given = λ no. absurd no;
+    }

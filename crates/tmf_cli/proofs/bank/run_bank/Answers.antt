@@ -5,12 +5,14 @@ use Rattle.tmf_edges.specs.Moves.{AppendsPart}
 use Rattle.tmf_lines.specs.Summary.{summary_text}
 use Rattle.tmf_script.specs.Bank.{bank_script}
 use Rattle.tmf_cli.specs.declared.status.Status.TheVariants as status
-use Rattle.tmf_cli.specs.Bank.{CollectsAll, GivesSummary, TellsBank}
+use Rattle.tmf_cli.specs.AnyDevices.{HavePrinted}
+use Rattle.tmf_cli.specs.Bank.{CollectsAll, GivesSummary, PrintsBank, TellsBank}
 use Rattle.tmf_cli.specs.Countdown.{IsSwitched, OnceSwitched}
 use Rattle.tmf_cli.specs.Ending.{opening}
+use Rattle.tmf_cli.specs.Single.{NoneSingle}
 use Rattle.tmf_cli.specs.Status.{code_of}
 use Rattle.tmf_cli.specs.Top.{IsStatusCaused, Opens, Tells}
-use Rattle.tmf_cli.proofs.Banks.{bank-ended, bank-keeps, bank-leaves, bank-off, bank-others, bank-summed, bank-uncut, gives-none, gives-status, none-summed, summed-other, summed-status}
+use Rattle.tmf_cli.proofs.Banks.{bank-ended, bank-keeps, bank-leaves, bank-off, bank-others, bank-summed, bank-unbegun, bank-uncut, bank-unsingle, gives-status, none-summed, summed-status}
 use Rattle.tmf_cli.proofs.Countdowns.{once-so, same-length, switched-cuts, switches-same}
 use Rattle.tmf_cli.proofs.Openings.{opens-switched}
 use Rattle.tmf_cli.proofs.Playing.{others-none}
@@ -18,20 +20,7 @@ use Rattle.tmf_cli.proofs.Statuses.{code-sink}
 use Rattle.tmf_cli.proofs.bank.run_bank.Goals as goal
 
 pub returns-in_default : goal.returns-in_default
-returns-in_default g c = record {
-  status = inr (inl refl);
-  told = λ candidates tell opens.
-      inl (bank-ended g.D.Disk.held g.D.Disk.faults c.args.transfers candidates c.args.bay c.args.bay (IsTrue (g.K.Sink.tells c.args.sink.now)) (g.K.Sink.given c.args.sink.now) (g.K.Sink.given c.args.sink.now) status.NoMemory (inl refl) opens.stands
-      (inl (refl, λ no. absurd no)) (λ t. refl));
-  given = λ t. ([], gives-none c.args.transfers status.NoMemory (g.K.Sink.given c.args.sink.now) (g.K.Sink.given c.args.sink.now) [] (inl refl) refl);
-  sink_failed = λ e. absurd (omega (arith, e));
-  keeps_sink = record { tells = refl; later = search rules };
-  devices = c.left_alone.ensures;
-  others = inl (others-none (bank_script c.args.transfers).config (FuseRestarts g.D.Disk) c.args.bay);
-  uncut = switched-cuts c.args.bay c.args.bay (switches-same c.args.bay);
-  off = inl refl;
-  summed_off = λ summed. absurd (none-summed status.NoMemory (inl refl) summed);
-}
+returns-in_default g c = bank-unbegun g.K.Sink g.D.Disk c.args.transfers c.args.sink.now c.args.bay (record { tells = refl; later = search rules }) c.left_alone.ensures
 
 pub returns-in-Ok-carried : goal.returns-in-Ok-carried
 returns-in-Ok-carried g c =
@@ -53,12 +42,18 @@ returns-in-Ok-carried g c =
       told = λ candidates tell opens.
           once-so (λ opened. CollectsAll g.D.Disk.held g.D.Disk.faults (bank_script transfers).config (opening candidates) (bank_script transfers).actions opened lines new)
           (λ opened. TellsBank g.D.Disk.held g.D.Disk.faults transfers candidates (code_of how) opened new (IsTrue (g.K.Sink.tells c.args.sink.now)) before after) c.args.bay
-          (λ opened switched all. bank-summed g.D.Disk.held g.D.Disk.faults transfers candidates opened new (IsTrue (g.K.Sink.tells c.args.sink.now)) before after lines (code_of how) (summed-other how c.sum_up.ensures.status)
+          (λ opened switched all. bank-summed g.D.Disk.held g.D.Disk.faults transfers candidates opened new (IsTrue (g.K.Sink.tells c.args.sink.now)) before after lines (code_of how)
           (opens-switched g.D.Disk.held (bank_script transfers) c.args.bay opened switched candidates opens).stands (sym (same-length IsSwitched c.args.bay opened switched) ∙ carried.ensures.all) all gives)
           (subst (λ s. OnceSwitched (λ opened. CollectsAll g.D.Disk.held g.D.Disk.faults s.config (opening candidates) s.actions opened lines new) c.args.bay) same
           (subst (λ r. OnOk r (OnceSwitched (λ opened. CollectsAll g.D.Disk.held g.D.Disk.faults c.in-Ok.script.config (opening candidates) c.in-Ok.script.actions opened lines new) c.args.bay)) c.in-Ok-carried.is
           (carried.ensures.told candidates tell (subst (λ s. Opens g.D.Disk.held s c.args.bay candidates) (sym same) opens))));
-      given = λ ts. (lines, gives ts);
+      printed = λ summed.
+          once-so (λ opened. HavePrinted g.D.Disk (bank_script transfers).config (bank_script transfers).actions opened lines new)
+          (λ opened. PrintsBank g.D.Disk transfers (code_of how) opened new (IsTrue (g.K.Sink.tells c.args.sink.now)) before after) c.args.bay
+          (λ opened switched told. record { lines = lines; told = told; given = gives })
+          (subst (λ s. OnceSwitched (λ opened. HavePrinted g.D.Disk s.config s.actions opened lines new) c.args.bay) same
+          (subst (λ r. OnOk r (OnceSwitched (λ opened. HavePrinted g.D.Disk c.in-Ok.script.config c.in-Ok.script.actions opened lines new) c.args.bay)) c.in-Ok-carried.is carried.ensures.prints));
+      silent = λ unsummed ts. (gives ts).none unsummed;
       sink_failed = λ four. subst (λ s. IsStatusCaused s (g.K.Sink.faults c.args.sink.now) (g.K.Sink.faults c.sum_up.new.sink)) (code-sink how four) c.sum_up.ensures.cause;
       keeps_sink = c.sum_up.ensures.keeps;
       devices = bank-keeps g.D.Disk met.same_on met.same_itself transfers c.in-Ok.script c.args.bay new leaves;
@@ -80,7 +75,8 @@ returns g c =
     let met = g.met.D.Disk g.world.𝓛 g.world.𝓜 g.world.𝓡 ((λ s x. x), (λ x. x), (λ x. x), λ x. x) in
     let leaves = bank-leaves g.D.Disk met.same_on met.same_itself transfers c.in-Ok.script c.args.bay new same carried.ensures.keeps in
     record {
-      status = inr (⊎_elim (λ memory. inl (ap code_of memory)) (λ stopped. inr (ap code_of stopped)) two);
+      status = inr (ap code_of (subst (λ r. IfErr r (λ s. s ≡ status.NoMemory)) c.in-Err.is
+          (carried.ensures.unstopped (subst (λ s. NoneSingle s.config s.actions) (sym same) (bank-unsingle transfers)))));
       told = λ candidates tell opens.
           once-so (λ opened. Tells g.D.Disk.held g.D.Disk.faults (bank_script transfers) candidates how opened new ⊥ [] [])
           (λ opened. TellsBank g.D.Disk.held g.D.Disk.faults transfers candidates (code_of how) opened new (IsTrue (g.K.Sink.tells c.args.sink.now)) sink sink) c.args.bay
@@ -89,7 +85,8 @@ returns g c =
           (subst (λ s. OnceSwitched (λ opened. Tells g.D.Disk.held g.D.Disk.faults s candidates how opened new ⊥ [] []) c.args.bay) same
           (subst (λ r. IfErr r (λ s. OnceSwitched (λ opened. Tells g.D.Disk.held g.D.Disk.faults c.in-Ok.script candidates s opened new ⊥ [] []) c.args.bay)) c.in-Err.is
           (carried.ensures.ended candidates tell (subst (λ s. Opens g.D.Disk.held s c.args.bay candidates) (sym same) opens))));
-      given = λ ts. ([], gives-none transfers how sink sink [] two refl);
+      printed = λ summed. absurd (none-summed how two summed);
+      silent = λ unsummed t. refl;
       sink_failed = λ four. absurd (none-summed how two (inr four));
       keeps_sink = record { tells = refl; later = search rules };
       devices = bank-keeps g.D.Disk met.same_on met.same_itself transfers c.in-Ok.script c.args.bay new leaves;

@@ -6,11 +6,14 @@ use Rattle.std.proofs.lemmas.List.Elements.{recursion_from_All}
 use Rattle.disk_model.proofs.Devices.{rose-after}
 use Rattle.tmf_model.specs.Script.{IsValidAction}
 use Rattle.tmf_lines.specs.declared.line.Line.{Line}
+use Rattle.tmf_cli.specs.AnyDevices.{EndsPrinting, HasPrinted}
 use Rattle.tmf_cli.specs.BetweenActions.{IsBounded, node_of}
 use Rattle.tmf_lines.specs.Line.{lines_text}
 use Rattle.tmf_cli.specs.ActionGiven.{EndsAction, HasPlayed}
 use Rattle.tmf_cli.specs.OutputLaw.{HasFailed}
 use Rattle.tmf_cli.specs.Status.{IsAnyGiven, IsEndCaused}
+use Rattle.tmf_cli.proofs.AnyDevices.{printing-begin, printing-ends, printing-more, printing-whole}
+use Rattle.tmf_cli.proofs.Banks.{none-left}
 use Rattle.tmf_cli.proofs.Bays.{tell-on}
 use Rattle.tmf_cli.proofs.Countdowns.{leaves-same, leaves-then, none-killed}
 use Rattle.tmf_cli.proofs.Playing.{Running, running-begin, running-more, end-caused, ends-script, any-more, sink-then}
@@ -27,6 +30,7 @@ loop-action-init g c = (
     keeps_sink = record { tells = refl; later = search rules };
     keeps = leaves-same g.D.Disk (g.met.D.Disk g.world.𝓛 g.world.𝓜 g.world.𝓡 ((λ s x. x), (λ x. x), (λ x. x), λ x. x)).same_itself c.args.config.now _ c.args.bay c.requires.off;
     some = λ ts. ([], sym (append-nil (g.K.Sink.given c.args.sink.now)));
+    printing = printing-begin g.D.Disk c.args.config.now c.args.bay (IsTrue (g.K.Sink.tells c.args.sink.now)) (g.K.Sink.given c.args.sink.now) c.new-state.result c.new-state.ensures;
     running = λ candidates tell knows. running-begin g.D.Disk.held g.D.Disk.faults c.args.config.now candidates c.args.bay (IsTrue (g.K.Sink.tells c.args.sink.now)) (g.K.Sink.given c.args.sink.now) c.args.actions.now c.new-state.result c.new-state.ensures knows;
   },
 )
@@ -102,6 +106,11 @@ loop-action-preserved g c =
               next.1 ∙ ap (λ b. b ++ lines_text next.0) given.1 ∙ append_assoc (g.K.Sink.given c.args.sink.now) (lines_text given.0) (lines_text next.0)
                   ∙ ap (λ t. g.K.Sink.given c.args.sink.now ++ t) (sym (lines_text-more given.0 next.0)),
             );
+        printing = printing-more g.D.Disk c.args.config.now c.args.bay (IsTrue (g.K.Sink.tells c.args.sink.now)) (g.K.Sink.given c.args.sink.now) done action c.loop-action.state c.play_action-played.new.state c.loop-action.bay c.play_action-played.result.1 (g.K.Sink.given c.loop-action.sink) (g.K.Sink.given c.play_action-played.new.sink) had.printing
+            (subst (λ r. MatchResult r (λ _. HasPrinted g.D.Disk c.args.config.now action c.loop-action.state c.loop-action.bay c.play_action-played.new.state c.play_action-played.result.1 (IsTrue (g.K.Sink.tells c.args.sink.now)) (g.K.Sink.given c.loop-action.sink) (g.K.Sink.given c.play_action-played.new.sink))
+            (λ end. EndsPrinting g.D.Disk c.args.config.now action c.loop-action.state c.loop-action.bay c.play_action-played.result.1 end (IsTrue (g.K.Sink.tells c.args.sink.now)) (g.K.Sink.given c.loop-action.sink) (g.K.Sink.given c.play_action-played.new.sink))) c.in_default-played.is (subst (λ t. MatchResult c.play_action-played.result.0 (λ _. HasPrinted g.D.Disk c.args.config.now action c.loop-action.state c.loop-action.bay c.play_action-played.new.state c.play_action-played.result.1 (IsTrue t) (g.K.Sink.given c.loop-action.sink) (g.K.Sink.given c.play_action-played.new.sink))
+            (λ end. EndsPrinting g.D.Disk c.args.config.now action c.loop-action.state c.loop-action.bay c.play_action-played.result.1 end (IsTrue t) (g.K.Sink.given c.loop-action.sink) (g.K.Sink.given c.play_action-played.new.sink))) had.keeps_sink.tells c.play_action-played.ensures.prints))
+            c.play_action-played.ensures.keeps.counts;
         running = λ candidates tell knows.
             let running : Running g.D.Disk.held g.D.Disk.faults c.args.config.now candidates c.args.bay (IsTrue (g.K.Sink.tells c.args.sink.now)) (g.K.Sink.given c.args.sink.now) done (action ∷ more) c.loop-action.state c.loop-action.bay (g.K.Sink.given c.loop-action.sink) =
             subst (λ rest. Running g.D.Disk.held g.D.Disk.faults c.args.config.now candidates c.args.bay (IsTrue (g.K.Sink.tells c.args.sink.now)) (g.K.Sink.given c.args.sink.now) done rest c.loop-action.state c.loop-action.bay (g.K.Sink.given c.loop-action.sink)) first
@@ -116,3 +125,22 @@ loop-action-preserved g c =
             c.play_action-played.ensures.keeps.counts;
       },
     )
+
+pub returns-in-Err-clause-prints : goal.returns-in-Err-clause-prints
+returns-in-Err-clause-prints g c =
+    let done = c.loop-action.invariant.0 in
+    let had = c.loop-action.invariant.1 in
+    let action = c.in-Some.action.now in
+    let more = c.in-Some.more.now in
+    printing-ends g.D.Disk c.args.config.now c.args.bay c.loop-action.bay c.play_action-played.result.1 (IsTrue (g.K.Sink.tells c.args.sink.now)) (g.K.Sink.given c.args.sink.now) (g.K.Sink.given c.loop-action.sink) (g.K.Sink.given c.play_action-played.new.sink) c.args.actions.now done more action c.loop-action.state c.in-Err.end
+    (had.parts ∙ ap (λ rest. done ++ rest) c.in-Some.ensures.cases.0) had.printing
+    (subst (λ r. MatchResult r (λ _. HasPrinted g.D.Disk c.args.config.now action c.loop-action.state c.loop-action.bay c.play_action-played.new.state c.play_action-played.result.1 (IsTrue (g.K.Sink.tells c.args.sink.now)) (g.K.Sink.given c.loop-action.sink) (g.K.Sink.given c.play_action-played.new.sink))
+    (λ end. EndsPrinting g.D.Disk c.args.config.now action c.loop-action.state c.loop-action.bay c.play_action-played.result.1 end (IsTrue (g.K.Sink.tells c.args.sink.now)) (g.K.Sink.given c.loop-action.sink) (g.K.Sink.given c.play_action-played.new.sink))) c.in-Err.is (subst (λ t. MatchResult c.play_action-played.result.0 (λ _. HasPrinted g.D.Disk c.args.config.now action c.loop-action.state c.loop-action.bay c.play_action-played.new.state c.play_action-played.result.1 (IsTrue t) (g.K.Sink.given c.loop-action.sink) (g.K.Sink.given c.play_action-played.new.sink))
+    (λ end. EndsPrinting g.D.Disk c.args.config.now action c.loop-action.state c.loop-action.bay c.play_action-played.result.1 end (IsTrue t) (g.K.Sink.given c.loop-action.sink) (g.K.Sink.given c.play_action-played.new.sink))) had.keeps_sink.tells c.play_action-played.ensures.prints))
+    c.play_action-played.ensures.keeps.counts
+
+pub returns-clause-prints : goal.returns-clause-prints
+returns-clause-prints g c =
+    let done = c.loop-action.invariant.0 in
+    let had = c.loop-action.invariant.1 in
+    printing-whole g.D.Disk c.args.config.now c.requires.valid c.args.bay c.loop-action.bay (IsTrue (g.K.Sink.tells c.args.sink.now)) (g.K.Sink.given c.args.sink.now) (g.K.Sink.given c.loop-action.sink) c.args.actions.now done c.loop-action.rest.now c.loop-action.state c.requires.actions had.parts (none-left c.loop-action.rest.now c.in_default.ensures.cases) had.printing

@@ -11,6 +11,7 @@ use Rattle.tmf_cli.specs.Countdown.{NoneKilled}
 use Rattle.tmf_lines.specs.Line.{lines_text}
 use Rattle.tmf_cli.specs.Ending.{opening}
 use Rattle.tmf_cli.specs.OutputLaw.{Candidate}
+use Rattle.tmf_cli.proofs.AnyDevices.{Printing}
 use Rattle.tmf_cli.proofs.Playing.{Running}
 use Rattle.tmf_cli.proofs.play.play.Given as goal
 
@@ -22,6 +23,7 @@ invariant-loop-action g l = (done : List Action) × record {
   keeps_sink : KeepsSink g.K.Sink l.initial.sink l.sink;
   keeps : LeavesBay g.D.Disk l.fn.config (NoneKilled l.fn.actions) l.initial.bay l.bay;
   some : IsTrue (g.K.Sink.tells l.initial.sink) → (lines : List Line) × (g.K.Sink.given l.sink ≡ g.K.Sink.given l.initial.sink ++ lines_text lines);
+  printing : Printing g.D.Disk l.fn.config l.initial.bay (IsTrue (g.K.Sink.tells l.initial.sink)) (g.K.Sink.given l.initial.sink) done l.state l.bay (g.K.Sink.given l.sink);
   running : (candidates : Option (List Candidate)) → DevicesTell g.D.Disk.tells l.initial.bay
       → Knows g.D.Disk.held l.fn.config (opening candidates) l.initial.bay
       → Running g.D.Disk.held g.D.Disk.faults l.fn.config candidates l.initial.bay (IsTrue (g.K.Sink.tells l.initial.sink)) (g.K.Sink.given l.initial.sink) done l.rest l.state l.bay (g.K.Sink.given l.sink);

@@ -1,7 +1,6 @@
 use Rattle.std.specs.Prelude.{length}
 use Rattle.std.specs.List.{AllByRecursion}
-use Rattle.std.proofs.Common.{rules, ◌≡◌, ◌≤◌, refl, sym, ap, subst, ◌∙◌, arith}
-use Rattle.one_worker.specs.RunLaw.{IsTransaction}
+use Rattle.std.proofs.Common.{rules, ◌≡◌, ◌≤◌, ◌+◌, List, inl, refl, sym, ap, subst, ◌∙◌, arith}
 use Rattle.tmf_cli.specs.BetweenActions.{end_of_run}
 use Rattle.tmf_cli.specs.OutputLaw.{down}
 use Rattle.tmf_cli.specs.Outcomes.{outcome_lines}
@@ -9,6 +8,12 @@ use Rattle.tmf_cli.proofs.Acts.{failed-ended, ok-ended}
 use Rattle.tmf_cli.proofs.Items.{first-few, first-transactions}
 use Rattle.tmf_cli.proofs.Ran.{match-err, match-ok, run-err, run-ok, run-unmade, unbarred-ok, up-epoch}
 use Rattle.tmf_cli.proofs.Resting.{run-others}
+use Rattle.std.specs.Prelude.{OnOk}
+use Rattle.tmf_model.specs.RecordMap.{RecordMap}
+use Rattle.tmf_model.specs.declared.script.Item.{Item}
+use Rattle.one_worker.specs.RunLaw.{AreAddedOn, IsTransaction}
+use Rattle.tmf_cli.proofs.AnyDevices.{refusal-map, single-prints}
+use Rattle.one_worker.specs.Stop.{IsRefusal}
 use Rattle.tmf_cli.proofs.single.act_single.Goals as goal
 
 pub run_worker-ran-requires-clause-transactions : goal.run_worker-ran-requires-clause-transactions
@@ -63,3 +68,17 @@ returns-in-Ok-clause-others g c = run-others g.D.Disk c.args.config.now c.args.b
 
 pub returns-clause-others : goal.returns-clause-others
 returns-clause-others g c = run-others g.D.Disk c.args.config.now c.args.bay c.run_worker-ran.result.1 c.run_worker-ran.ensures.keeps
+
+pub returns-in-Ok-clause-prints : goal.returns-in-Ok-clause-prints
+returns-in-Ok-clause-prints g c = λ state may.
+    let ran = c.run_worker-ran.ensures in
+    let before = c.new-outcomes.result.items in
+    let done = c.run_worker-ran.new.outcomes.items in
+    let on = subst (λ (items : List Item). (map : RecordMap) × AreAddedOn c.args.config.now c.args.up.epoch c.args.up.place items map before done) c.items_of-items.ensures ran.outcomes in
+    let all = subst (λ (items : List Item). OnOk c.run_worker-ran.result.0 (length done ≡ length before + length items)) c.items_of-items.ensures ran.added.1 in
+    single-prints g.D.Disk c.args.config.now c.args.phase.now state c.args.up may c.requires.single before done c.new-outcomes.ensures.items c.in-Ok.made.items on.0 on.1 (c.in-Ok.ensures ∙ ap (outcome_lines c.args.config.now) c.deref.ensures.value)
+    c.run_worker-ran.result.0 c.end_of_run-ran.result c.end_of_run-ran.ensures all (refusal-map c.run_worker-ran.result.0 _ (λ error. IsRefusal error → done ≡ before) (λ error so refusal. (so refusal).1) ran.idle.refused)
+    (λ device e of. (ran.idle.unread device e of).1)
+
+pub returns-clause-prints : goal.returns-clause-prints
+returns-clause-prints g c = λ state may. inl (refl, c.requires.none)

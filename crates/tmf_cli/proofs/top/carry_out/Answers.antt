@@ -1,12 +1,12 @@
-use Rattle.std.specs.Prelude.{All, Err, IfErr, None, OnOk}
-use Rattle.std.proofs.Common.{IsTrue, false, inr, sym, ap, subst, ◌∙◌, arith}
+use Rattle.std.specs.Prelude.{All, Err, IfErr, MatchResult, None, OnOk}
+use Rattle.std.proofs.Common.{IsTrue, false, inl, inr, refl, sym, ap, subst, ◌∙◌, arith}
 use Rattle.disk_model.proofs.Devices.{tell-then}
 use Rattle.tmf_model.specs.Script.{IsValidAction}
 use Rattle.tmf_cli.specs.declared.status.ScriptEnd.TheVariants.{GiveFault, Stopped}
 use Rattle.tmf_cli.specs.ActionGiven.{EndsScript}
 use Rattle.tmf_cli.specs.BetweenActions.{LeavesBay}
 use Rattle.tmf_cli.specs.Countdown.{NoneKilled}
-use Rattle.tmf_cli.specs.Status.{IsAnyGiven, IsEndCaused}
+use Rattle.tmf_cli.specs.Status.{IsAnyGiven, IsEndCaused, code_of}
 use Rattle.tmf_cli.specs.Ending.{EndsWhole, opening}
 use Rattle.tmf_cli.specs.OutputLaw.{HasFailed}
 use Rattle.tmf_cli.specs.Top.{IsStatusCaused, Tells}
@@ -14,6 +14,8 @@ use Rattle.tmf_cli.proofs.Countdowns.{set-off, set-switches, switched-tells}
 use Rattle.tmf_cli.proofs.Endings.{opens-knows, tells-not-said, caused-fault, fault-unstopped, tells-stopped, ends-any, failed-device}
 use Rattle.tmf_cli.proofs.Openings.{failed-switched, opens-switched}
 use Rattle.tmf_cli.proofs.Playing.{device-caused}
+use Rattle.tmf_cli.specs.AnyDevices.{EndsPlaying, PrintsBy, PrintsWhole}
+use Rattle.tmf_cli.proofs.AnyDevices.{stopped-prints, unsaid-prints}
 use Rattle.tmf_cli.proofs.top.carry_out.Goals as goal
 
 pub play-played-requires-clause-actions : goal.play-played-requires-clause-actions
@@ -157,3 +159,47 @@ play-played-requires-clause-off g c = λ _ _. set-off c.args.bay c.disarm.new.se
 
 pub returns-in-Stopped-clause-keeps_sink : goal.returns-in-Stopped-clause-keeps_sink
 returns-in-Stopped-clause-keeps_sink g c = record { tells = c.tell_stop.ensures.tells ∙ c.play-played.ensures.keeps_sink.tells; later = let before = c.play-played.ensures.keeps_sink.later in omega (arith, before, c.tell_stop.ensures.later) }
+
+pub returns-in-Ok-clause-prints : goal.returns-in-Ok-clause-prints
+returns-in-Ok-clause-prints g c =
+    inr (
+      c.disarm.new.self,
+      set-switches false c.args.bay c.disarm.new.self c.disarm.ensures.each,
+      set-off c.args.bay c.disarm.new.self c.disarm.ensures.each,
+      inl (
+        refl,
+        subst (λ actions. PrintsWhole g.D.Disk c.args.script.now.config actions c.disarm.new.self c.play-played.result.1 (IsTrue (g.K.Sink.tells c.args.sink.now)) (g.K.Sink.given c.args.sink.now) (g.K.Sink.given c.play-played.new.sink)) c.as_slice.ensures
+            (subst (λ r. MatchResult r (λ _. PrintsWhole g.D.Disk c.args.script.now.config c.as_slice.result.now c.disarm.new.self c.play-played.result.1 (IsTrue (g.K.Sink.tells c.args.sink.now)) (g.K.Sink.given c.args.sink.now) (g.K.Sink.given c.play-played.new.sink))
+            (λ end. EndsPlaying g.D.Disk c.args.script.now.config c.as_slice.result.now c.disarm.new.self c.play-played.result.1 end (IsTrue (g.K.Sink.tells c.args.sink.now)) (g.K.Sink.given c.args.sink.now) (g.K.Sink.given c.play-played.new.sink))) c.in-Ok.is c.play-played.ensures.prints),
+      ),
+    )
+
+pub returns-in-GiveFault-clause-prints : goal.returns-in-GiveFault-clause-prints
+returns-in-GiveFault-clause-prints g c =
+    inr (
+      c.disarm.new.self,
+      set-switches false c.args.bay c.disarm.new.self c.disarm.ensures.each,
+      set-off c.args.bay c.disarm.new.self c.disarm.ensures.each,
+      subst (λ s. PrintsBy g.D.Disk c.args.script.now.config c.args.script.now.actions (code_of s) c.disarm.new.self c.play-played.result.1 (IsTrue (g.K.Sink.tells c.args.sink.now)) (g.K.Sink.given c.args.sink.now) (g.K.Sink.given c.play-played.new.sink)) (sym c.of_fault.ensures)
+          (unsaid-prints g.D.Disk c.args.script.now.config c.requires.valid.config c.args.script.now.actions c.requires.valid.actions c.disarm.new.self c.play-played.result.1 (IsTrue (g.K.Sink.tells c.args.sink.now)) (g.K.Sink.given c.args.sink.now) (g.K.Sink.given c.play-played.new.sink) c.in-GiveFault.fault
+          (subst (λ actions. EndsPlaying g.D.Disk c.args.script.now.config actions c.disarm.new.self c.play-played.result.1 (GiveFault c.in-GiveFault.fault) (IsTrue (g.K.Sink.tells c.args.sink.now)) (g.K.Sink.given c.args.sink.now) (g.K.Sink.given c.play-played.new.sink)) c.as_slice.ensures
+          (subst (λ r. MatchResult r (λ _. PrintsWhole g.D.Disk c.args.script.now.config c.as_slice.result.now c.disarm.new.self c.play-played.result.1 (IsTrue (g.K.Sink.tells c.args.sink.now)) (g.K.Sink.given c.args.sink.now) (g.K.Sink.given c.play-played.new.sink))
+          (λ end. EndsPlaying g.D.Disk c.args.script.now.config c.as_slice.result.now c.disarm.new.self c.play-played.result.1 end (IsTrue (g.K.Sink.tells c.args.sink.now)) (g.K.Sink.given c.args.sink.now) (g.K.Sink.given c.play-played.new.sink))) (c.in-Err.is ∙ ap Err c.in-GiveFault.is) c.play-played.ensures.prints))),
+    )
+
+pub returns-in-Stopped-clause-prints : goal.returns-in-Stopped-clause-prints
+returns-in-Stopped-clause-prints g c =
+    inr (
+      c.disarm.new.self,
+      set-switches false c.args.bay c.disarm.new.self c.disarm.ensures.each,
+      set-off c.args.bay c.disarm.new.self c.disarm.ensures.each,
+      stopped-prints g.D.Disk c.args.script.now.config c.requires.valid.config c.args.script.now.actions c.requires.valid.actions c.disarm.new.self c.play-played.result.1 (IsTrue (g.K.Sink.tells c.args.sink.now)) (g.K.Sink.given c.args.sink.now) (g.K.Sink.given c.tell_stop.new.sink) (g.K.Sink.given c.play-played.new.sink)
+          (g.K.Sink.faults c.play-played.new.sink) (g.K.Sink.faults c.tell_stop.new.sink) c.in-Stopped.stop c.tell_stop.result
+          (subst (λ actions. EndsPlaying g.D.Disk c.args.script.now.config actions c.disarm.new.self c.play-played.result.1 (Stopped c.in-Stopped.stop) (IsTrue (g.K.Sink.tells c.args.sink.now)) (g.K.Sink.given c.args.sink.now) (g.K.Sink.given c.play-played.new.sink)) c.as_slice.ensures
+          (subst (λ r. MatchResult r (λ _. PrintsWhole g.D.Disk c.args.script.now.config c.as_slice.result.now c.disarm.new.self c.play-played.result.1 (IsTrue (g.K.Sink.tells c.args.sink.now)) (g.K.Sink.given c.args.sink.now) (g.K.Sink.given c.play-played.new.sink))
+          (λ end. EndsPlaying g.D.Disk c.args.script.now.config c.as_slice.result.now c.disarm.new.self c.play-played.result.1 end (IsTrue (g.K.Sink.tells c.args.sink.now)) (g.K.Sink.given c.args.sink.now) (g.K.Sink.given c.play-played.new.sink))) (c.in-Err.is ∙ ap Err c.in-Stopped.is) c.play-played.ensures.prints))
+          (λ ts stopped. c.tell_stop.ensures.told (subst IsTrue (sym c.play-played.ensures.keeps_sink.tells) ts) stopped)
+          (λ ts failed. c.tell_stop.ensures.part (subst IsTrue (sym c.play-played.ensures.keeps_sink.tells) ts) failed)
+          (λ ts lacked. c.tell_stop.ensures.none (subst IsTrue (sym c.play-played.ensures.keeps_sink.tells) ts) lacked)
+          c.tell_stop.ensures.silent c.tell_stop.ensures.ended c.tell_stop.ensures.cause,
+    )

@@ -8,6 +8,9 @@ use Rattle.tmf_cli.proofs.Endings.{tells-before, tells-unread, unread-unplayed}
 use Rattle.tmf_cli.proofs.Countdowns.{once-so, switched-cuts, switches-same}
 use Rattle.tmf_cli.proofs.Openings.{bay-keeps, bay-off, bay-same, bay-uncut}
 use Rattle.tmf_cli.proofs.Playing.{others-none}
+use Rattle.tmf_cli.specs.AnyDevices.{PrintsBy}
+use Rattle.tmf_cli.specs.Status.{code_of}
+use Rattle.tmf_cli.proofs.AnyDevices.{prints-before, unread-prints}
 use Rattle.tmf_cli.proofs.top.run_script.Goals as goal
 
 pub returns-in-Ok-clause-told : goal.returns-in-Ok-clause-told
@@ -76,3 +79,37 @@ returns-in-Err-clause-unrefused g c = λ script is source refused. c.in-Err.ensu
 
 pub returns-in-Err-clause-all : goal.returns-in-Err-clause-all
 returns-in-Err-clause-all g c = λ done. absurd (unread-unplayed c.in-Err.status (g.S.Source.faults c.args.source.now) (g.S.Source.faults c.script_from.new.source) c.in-Err.ensures.cause (inl done))
+
+pub returns-in-Ok-clause-prints : goal.returns-in-Ok-clause-prints
+returns-in-Ok-clause-prints g c = λ script is source.
+    let same = c.in-Ok.ensures.only source script is in
+    let code = code_of c.carry_out.result.0 in
+    once-so (λ opened. PrintsBy g.D.Disk c.in-Ok.script.config c.in-Ok.script.actions code opened c.carry_out.result.1 (IsTrue (g.K.Sink.tells c.script_from.new.sink)) (g.K.Sink.given c.script_from.new.sink) (g.K.Sink.given c.carry_out.new.sink))
+    (λ opened. PrintsBy g.D.Disk script.config script.actions code opened c.carry_out.result.1 (IsTrue (g.K.Sink.tells c.args.sink.now)) (g.K.Sink.given c.args.sink.now) (g.K.Sink.given c.carry_out.new.sink)) c.args.bay
+    (λ opened switched prints. prints-before g.D.Disk script.config script.actions code opened c.carry_out.result.1 (IsTrue (g.K.Sink.tells c.args.sink.now)) (IsTrue (g.K.Sink.tells c.script_from.new.sink)) (g.K.Sink.given c.args.sink.now) (g.K.Sink.given c.script_from.new.sink)
+    (g.K.Sink.given c.carry_out.new.sink) (λ ts. subst IsTrue (sym c.in-Ok.ensures.tells) ts) (λ ts. c.in-Ok.ensures.same ts)
+    (subst (λ s. PrintsBy g.D.Disk s.config s.actions code opened c.carry_out.result.1 (IsTrue (g.K.Sink.tells c.script_from.new.sink)) (g.K.Sink.given c.script_from.new.sink) (g.K.Sink.given c.carry_out.new.sink)) same prints))
+    c.carry_out.ensures.prints
+
+pub returns-in-Err-clause-prints : goal.returns-in-Err-clause-prints
+returns-in-Err-clause-prints g c = λ script is source.
+    inl (unread-prints g.D.Disk script.config script.actions c.args.bay (IsTrue (g.K.Sink.tells c.args.sink.now)) (g.K.Sink.given c.args.sink.now) (g.K.Sink.given c.script_from.new.sink) c.in-Err.status (g.S.Source.faults c.args.source.now) (g.S.Source.faults c.script_from.new.source)
+    c.in-Err.ensures.cause (c.in-Err.ensures.unrefused source script is) (λ ts. c.in-Err.ensures.quiet source ts script is))
+
+pub returns-in-Ok-clause-prints_some : goal.returns-in-Ok-clause-prints_some
+returns-in-Ok-clause-prints_some g c = λ played.
+    let script = c.in-Ok.script in
+    let code = code_of c.carry_out.result.0 in
+    record {
+      script = script;
+      valid = c.in-Ok.ensures.valid;
+      of_text = λ source. c.in-Ok.ensures.script source;
+      printed = once-so (λ opened. PrintsBy g.D.Disk script.config script.actions code opened c.carry_out.result.1 (IsTrue (g.K.Sink.tells c.script_from.new.sink)) (g.K.Sink.given c.script_from.new.sink) (g.K.Sink.given c.carry_out.new.sink))
+          (λ opened. PrintsBy g.D.Disk script.config script.actions code opened c.carry_out.result.1 (IsTrue (g.K.Sink.tells c.args.sink.now)) (g.K.Sink.given c.args.sink.now) (g.K.Sink.given c.carry_out.new.sink)) c.args.bay
+          (λ opened switched prints. prints-before g.D.Disk script.config script.actions code opened c.carry_out.result.1 (IsTrue (g.K.Sink.tells c.args.sink.now)) (IsTrue (g.K.Sink.tells c.script_from.new.sink)) (g.K.Sink.given c.args.sink.now) (g.K.Sink.given c.script_from.new.sink)
+          (g.K.Sink.given c.carry_out.new.sink) (λ ts. subst IsTrue (sym c.in-Ok.ensures.tells) ts) (λ ts. c.in-Ok.ensures.same ts) prints)
+          c.carry_out.ensures.prints;
+    }
+
+pub returns-in-Err-clause-prints_some : goal.returns-in-Err-clause-prints_some
+returns-in-Err-clause-prints_some g c = λ played. absurd (unread-unplayed c.in-Err.status (g.S.Source.faults c.args.source.now) (g.S.Source.faults c.script_from.new.source) c.in-Err.ensures.cause played)

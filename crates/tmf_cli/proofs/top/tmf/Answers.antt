@@ -1,18 +1,21 @@
-use Rattle.std.specs.Prelude.{None, map, string_bytes}
+use Rattle.std.specs.Prelude.{None, Some, map, string_bytes, take}
 use Rattle.std.proofs.Common.{rules, ◌≡◌, ◌≤◌, ℕ, IsTrue, false, refl, sym, ap, subst, ◌∙◌, inl, inr, ⊎_elim, arith}
 use Rattle.disk_model.proofs.Devices.{rose-after}
 use Rattle.disk_model.specs.Devices.{FuseRestarts}
 use Rattle.tmf_words.specs.Words.{are_accepted}
 use Rattle.tmf_script.proofs.Validity.{valid_text}
 use Rattle.tmf_cli.specs.Headline.{KeepsEveryCommit}
+use Rattle.tmf_cli.specs.Bank.{AnswersBank}
 use Rattle.tmf_cli.specs.Status.{code_of}
+use Rattle.tmf_cli.specs.declared.status.Status.TheVariants as status
 use Rattle.tmf_cli.specs.OneOutput.{IsTheOutput}
-use Rattle.tmf_cli.specs.Top.{IsPlayed, IsRead, Tells, TellsBy}
-use Rattle.tmf_cli.proofs.Statuses.{code-done, code-memory, code-most, code-refused, code-sink, code-source, code-stopped, code-usage, none-failed, none-played, none-read, played-from, read-from}
+use Rattle.tmf_cli.specs.Top.{IsPlayed, IsRead, Tells, TellsBy, read_limit}
+use Rattle.tmf_cli.proofs.Statuses.{code-done, code-memory, code-most, code-refused, code-sink, code-source, code-stopped, code-usage, memory-unread, none-failed, none-played, none-read, played-from, read-from}
 use Rattle.tmf_cli.specs.Countdown.{IsSwitched}
 use Rattle.tmf_cli.specs.Counts.{CountsFailures}
 use Rattle.tmf_cli.specs.Faultless.{IsFaultlessOutput}
-use Rattle.tmf_cli.proofs.BankWords.{accepted-bank, other-bank, run-no-bank}
+use Rattle.tmf_cli.proofs.BankWords.{accepted-bank, asked-bank, run-no-bank}
+use Rattle.tmf_cli.proofs.Banks.{bank-unbegun}
 use Rattle.tmf_cli.proofs.CountedLines.{counts-failures}
 use Rattle.tmf_cli.proofs.Countdowns.{once-any, once-so, same-length, switched-cuts, switched-falls, switches-same}
 use Rattle.tmf_cli.proofs.FaultlessLines.{the_faultless}
@@ -20,6 +23,7 @@ use Rattle.tmf_cli.proofs.OneOutputs.{the_output, whole-falls}
 use Rattle.tmf_cli.proofs.Openings.{none-rose, opens-switched}
 use Rattle.tmf_cli.proofs.Playing.{others-none}
 use Rattle.tmf_cli.proofs.Promises.{promised}
+use Rattle.tmf_cli.specs.AnyDevices.{PrintsBy, PrintsOfSome}
 use Rattle.tmf_cli.proofs.top.tmf.Goals as goal
 
 pub returns-clause-told : goal.returns-clause-told
@@ -178,26 +182,75 @@ returns-then-not-accepts-clause-text g c = λ none source.
 pub returns-then-not-accepts-clause-bank : goal.returns-then-not-accepts-clause-bank
 returns-then-not-accepts-clause-bank g c = λ transfers is. absurd (accepted-bank (map string_bytes c.args.words.now) transfers is (search rules))
 
-pub returns-in-Some-clause-headline : goal.returns-in-Some-clause-headline
-returns-in-Some-clause-headline g c = λ form candidates words. absurd (run-no-bank (map string_bytes c.args.words.now) c.in-Some.transfers words (sym c.bank_of.ensures.number ∙ c.in-Some.is))
+pub returns-in-Bank-clause-headline : goal.returns-in-Bank-clause-headline
+returns-in-Bank-clause-headline g c = λ form candidates words. absurd (run-no-bank (map string_bytes c.args.words.now) c.in-Bank.transfers words (asked-bank (map string_bytes c.args.words.now) c.in-Bank.transfers (sym c.in-Ok.ensures.asked ∙ c.in-Bank.is)))
 
-pub returns-in-Some-clause-counts : goal.returns-in-Some-clause-counts
-returns-in-Some-clause-counts g c = λ form candidates words. absurd (run-no-bank (map string_bytes c.args.words.now) c.in-Some.transfers words (sym c.bank_of.ensures.number ∙ c.in-Some.is))
+pub returns-in-Bank-clause-counts : goal.returns-in-Bank-clause-counts
+returns-in-Bank-clause-counts g c = λ form candidates words. absurd (run-no-bank (map string_bytes c.args.words.now) c.in-Bank.transfers words (asked-bank (map string_bytes c.args.words.now) c.in-Bank.transfers (sym c.in-Ok.ensures.asked ∙ c.in-Bank.is)))
 
-pub returns-in-Some-clause-told : goal.returns-in-Some-clause-told
-returns-in-Some-clause-told g c = λ form candidates words. absurd (run-no-bank (map string_bytes c.args.words.now) c.in-Some.transfers words (sym c.bank_of.ensures.number ∙ c.in-Some.is))
+pub returns-in-Bank-clause-told : goal.returns-in-Bank-clause-told
+returns-in-Bank-clause-told g c = λ form candidates words. absurd (run-no-bank (map string_bytes c.args.words.now) c.in-Bank.transfers words (asked-bank (map string_bytes c.args.words.now) c.in-Bank.transfers (sym c.in-Ok.ensures.asked ∙ c.in-Bank.is)))
 
-pub returns-in-Some-clause-one_output : goal.returns-in-Some-clause-one_output
-returns-in-Some-clause-one_output g c = λ form words. absurd (run-no-bank (map string_bytes c.args.words.now) c.in-Some.transfers words (sym c.bank_of.ensures.number ∙ c.in-Some.is))
+pub returns-in-Bank-clause-one_output : goal.returns-in-Bank-clause-one_output
+returns-in-Bank-clause-one_output g c = λ form words. absurd (run-no-bank (map string_bytes c.args.words.now) c.in-Bank.transfers words (asked-bank (map string_bytes c.args.words.now) c.in-Bank.transfers (sym c.in-Ok.ensures.asked ∙ c.in-Bank.is)))
 
-pub returns-in-Some-clause-faultless : goal.returns-in-Some-clause-faultless
-returns-in-Some-clause-faultless g c = λ form candidates words. absurd (run-no-bank (map string_bytes c.args.words.now) c.in-Some.transfers words (sym c.bank_of.ensures.number ∙ c.in-Some.is))
+pub returns-in-Bank-clause-faultless : goal.returns-in-Bank-clause-faultless
+returns-in-Bank-clause-faultless g c = λ form candidates words. absurd (run-no-bank (map string_bytes c.args.words.now) c.in-Bank.transfers words (asked-bank (map string_bytes c.args.words.now) c.in-Bank.transfers (sym c.in-Ok.ensures.asked ∙ c.in-Bank.is)))
 
-pub returns-in-Some-clause-text : goal.returns-in-Some-clause-text
-returns-in-Some-clause-text g c = λ none. absurd (other-bank (map string_bytes c.args.words.now) c.in-Some.transfers none (sym c.bank_of.ensures.number ∙ c.in-Some.is))
+pub returns-in-Bank-clause-keeps : goal.returns-in-Bank-clause-keeps
+returns-in-Bank-clause-keeps g c = λ none.
+    let some = asked-bank (map string_bytes c.args.words.now) c.in-Bank.transfers (sym c.in-Ok.ensures.asked ∙ c.in-Bank.is) in
+    let never : Some c.in-Bank.transfers ≡ None = sym some ∙ none in absurd (cc)
 
-pub returns-in-Some-clause-status : goal.returns-in-Some-clause-status
-returns-in-Some-clause-status g c = λ none. absurd (other-bank (map string_bytes c.args.words.now) c.in-Some.transfers none (sym c.bank_of.ensures.number ∙ c.in-Some.is))
+pub returns-clause-prints : goal.returns-clause-prints
+returns-clause-prints g c = λ form words is source.
+    once-so (λ opened. PrintsBy g.D.Disk form.config form.actions (code_of c.run_script-status.result.0) opened c.run_script-status.result.1 (IsTrue (g.K.Sink.tells c.args.sink.now)) (g.K.Sink.given c.args.sink.now) (g.K.Sink.given c.run_script-status.new.sink))
+    (λ opened. PrintsBy g.D.Disk form.config form.actions c.code-2.result opened c.run_script-status.result.1 (IsTrue (g.K.Sink.tells c.args.sink.now)) (g.K.Sink.given c.args.sink.now) (g.K.Sink.given c.run_script-status.new.sink)) c.args.bay
+    (λ opened switched prints. subst (λ code. PrintsBy g.D.Disk form.config form.actions code opened c.run_script-status.result.1 (IsTrue (g.K.Sink.tells c.args.sink.now)) (g.K.Sink.given c.args.sink.now) (g.K.Sink.given c.run_script-status.new.sink)) (sym c.code-2.ensures) prints) (c.run_script-status.ensures.prints form is source)
 
-pub returns-in-Some-clause-keeps : goal.returns-in-Some-clause-keeps
-returns-in-Some-clause-keeps g c = λ none. absurd (other-bank (map string_bytes c.args.words.now) c.in-Some.transfers none (sym c.bank_of.ensures.number ∙ c.in-Some.is))
+pub returns-in-Bank-clause-prints : goal.returns-in-Bank-clause-prints
+returns-in-Bank-clause-prints g c = λ form words. absurd (run-no-bank (map string_bytes c.args.words.now) c.in-Bank.transfers words (asked-bank (map string_bytes c.args.words.now) c.in-Bank.transfers (sym c.in-Ok.ensures.asked ∙ c.in-Bank.is)))
+
+pub returns-clause-prints_some : goal.returns-clause-prints_some
+returns-clause-prints_some g c = λ words played.
+    subst (λ code. PrintsOfSome g.D.Disk code c.args.bay c.run_script-status.result.1 (IsTrue (g.S.Source.tells c.args.source.now)) (take read_limit (g.S.Source.rest c.args.source.now)) (IsTrue (g.K.Sink.tells c.args.sink.now)) (g.K.Sink.given c.args.sink.now) (g.K.Sink.given c.run_script-status.new.sink)) (sym c.code-2.ensures)
+    (c.run_script-status.ensures.prints_some (played-from c.run_script-status.result.0 (subst IsPlayed c.code-2.ensures played)))
+
+pub returns-in-Bank-clause-prints_some : goal.returns-in-Bank-clause-prints_some
+returns-in-Bank-clause-prints_some g c = λ words. absurd (run-no-bank (map string_bytes c.args.words.now) c.in-Bank.transfers words (asked-bank (map string_bytes c.args.words.now) c.in-Bank.transfers (sym c.in-Ok.ensures.asked ∙ c.in-Bank.is)))
+
+pub returns-in_default-clause-headline : goal.returns-in_default-clause-headline
+returns-in_default-clause-headline g c = λ form candidates words is source tell opens.
+    let given = g.K.Sink.given c.args.sink.now in
+    inl (subst (λ code. KeepsEveryCommit g.D.Disk.held g.D.Disk.faults form candidates code c.args.bay c.args.bay (IsTrue (g.K.Sink.tells c.args.sink.now)) given given) (sym c.code-in_default.ensures)
+    (promised g.D.Disk.held g.D.Disk.faults form candidates c.args.bay c.args.bay (IsTrue (g.K.Sink.tells c.args.sink.now)) given given opens.stands status.NoMemory (inl (refl, λ t. refl))))
+
+pub returns-in_default-clause-counts : goal.returns-in_default-clause-counts
+returns-in_default-clause-counts g c = λ form candidates words is source tell opens.
+    let given = g.K.Sink.given c.args.sink.now in
+    inl (counts-failures g.D.Disk.held g.D.Disk.faults form candidates c.code-in_default.result c.args.bay c.args.bay (IsTrue (g.K.Sink.tells c.args.sink.now)) given given (valid_text _ form is)
+    (subst (λ code. KeepsEveryCommit g.D.Disk.held g.D.Disk.faults form candidates code c.args.bay c.args.bay (IsTrue (g.K.Sink.tells c.args.sink.now)) given given) (sym c.code-in_default.ensures)
+    (promised g.D.Disk.held g.D.Disk.faults form candidates c.args.bay c.args.bay (IsTrue (g.K.Sink.tells c.args.sink.now)) given given opens.stands status.NoMemory (inl (refl, λ t. refl)))))
+
+pub returns-in_default-clause-told : goal.returns-in_default-clause-told
+returns-in_default-clause-told g c = λ form candidates words is source tell opens. inl (status.NoMemory, sym c.code-in_default.ensures, inl (refl, λ t. refl))
+
+pub returns-in_default-clause-keeps : goal.returns-in_default-clause-keeps
+returns-in_default-clause-keeps g c = λ none. record {
+  source_tells = refl;
+  source_later = search rules;
+  taken = λ source. record {
+    front = search rules;
+    whole = λ read. absurd (memory-unread (subst IsRead c.code-in_default.ensures read));
+  };
+  sink_tells = refl;
+  sink_later = search rules;
+  devices = c.left_alone-in_default.ensures;
+}
+
+pub returns-in_default-clause-bank : goal.returns-in_default-clause-bank
+returns-in_default-clause-bank g c = λ transfers is. (
+  refl,
+  subst (λ code. AnswersBank g.K.Sink g.D.Disk transfers code c.args.sink.now c.args.sink.now c.args.bay c.args.bay) (sym c.code-in_default.ensures)
+      (bank-unbegun g.K.Sink g.D.Disk transfers c.args.sink.now c.args.bay (record { tells = refl; later = search rules }) c.left_alone-in_default.ensures),
+)
