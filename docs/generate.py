@@ -106,7 +106,9 @@ def definitions_of(crate):
     for path in sorted((ROOT / "crates" / crate / "specs").rglob("*.antt")):
         said = []
         for line in path.read_text().splitlines():
-            match = DEFINITION.match(line) or INNER.match(line)
+            inner = INNER.match(line)
+            # (a small word is a value's name in other crates too; one without a comment says nothing here)
+            match = DEFINITION.match(line) or (inner if inner and said and inner[1][0].isupper() else None)
             if re.match(r"(  )?-- ", line):
                 said.append(line.strip()[3:].strip())
                 continue
