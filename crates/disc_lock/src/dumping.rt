@@ -74,7 +74,7 @@ impl<'a, D: Disk, J: DeviceRun<D>> DiscAt<'a, D, J> {
     }
 
     /// Copies a block as it stands into 4,096 bytes, and answers the position of the disc's last record, of which the dumper's seat then knows.
-    /// It is refused where the block could not be read, or another one not be drawn that had to give way. Each other block of the cache is as it was, or has given way.
+    /// It is refused where the block could not be read, or another one not be drawn that had to give way. Each other block of the cache is as it was, or has given way for this one.
     pub fn copy_block<R: Wait>(
         &mut self,
         rt: &R,
@@ -145,7 +145,7 @@ impl<'g, 'a, D: Disk, J: DeviceRun<D>> DiscGuard<'g, 'a, D, J> {
     }
 
     /// Copies a block as it stands into 4,096 bytes, and answers the position of the disc's last record, of which the dumper's seat then knows.
-    /// It is refused where the block could not be read, or another one not be drawn that had to give way. Each other block of the cache is as it was, or has given way.
+    /// It is refused where the block could not be read, or another one not be drawn that had to give way. Each other block of the cache is as it was, or has given way for this one.
     pub fn copy_block<R: Wait>(
         &mut self,
         rt: &R,

@@ -20,7 +20,7 @@ use Rattle.block_cache.specs.declared.pair.PairPhase.TheVariants.{Settled, Writt
 use Rattle.block_cache.specs.declared.number.BlockNo.{BlockNo}
 use Rattle.block_cache.specs.Blocks.{Holds, HoldsEntry, InCache, IsCached, IsLoaded, SameLabel, View, content_in, newest}
 use Rattle.block_cache.specs.Cache.{CacheView, IsCache, KeepsFrames, SetsEntry, entry_at, frame_at, is_clean, is_dirty, is_settled, place_of, victim_of}
-use Rattle.disc_process.specs.Blocks.{HasMarked, IsHome, SameDraws, content, dirty_in, half_in}
+use Rattle.disc_process.specs.Blocks.{HasMarked, IsHome, SameDraws, content, dirty_in, frame_giving_way, half_in, or_else}
 use Rattle.disc_process.specs.Disc.{AreHomes, DiscView}
 use Rattle.disc_process.specs.Draw.{IsClean, IsFirstDirty}
 use Rattle.std.specs.Prelude.{IfNone, IfSome}
@@ -138,28 +138,30 @@ at_home file number blocks block is key there =
     let second = and_parts (is_home_number (Some home) block.number) _ first.1 in
     eqb-true (block_of key blocks) number (all_keys home key block.records second.1 there)
 
-find_first : (p : ℕ → Bool) (m : ℕ) (ms : List ℕ) → p m ≡ true → IsSome (find p (m ∷ ms))
-find_first p m ms e = subst (λ (b : Bool). IsSome (cond b (Some m) (find p ms))) (sym e) refl
+find_first : (p : ℕ → Bool) (m : ℕ) (ms : List ℕ) → p m ≡ true → find p (m ∷ ms) ≡ Some m
+find_first p m ms e = ap (λ (b : Bool). cond b (Some m) (find p ms)) e
 
 clean_at : (frames : List Frame) (n : ℕ) (x : Frame) → slice_get frames n ≡ Some x → is_dirty x ≡ false → is_clean frames n ≡ true
 clean_at frames n x at clean = ap (λ (o : Option Frame). option_map_or (λ (f : Frame). not (is_dirty f)) o false) at ∙ ap not clean
 
 -- once the block that stood first was drawn, its frame gives way
-pub gives_way : (old new : CacheView) (f n : ℕ) → KeepsFrames old new → frame_at old (place_of f n) ≡ slice_get old.order 0 → (x : Frame) → entry_at new f n ≡ Some x → is_dirty x ≡ false → IsSome (victim_of new)
+gives_way : (old new : CacheView) (f n : ℕ) → KeepsFrames old new → frame_at old (place_of f n) ≡ slice_get old.order 0 → (x : Frame) → entry_at new f n ≡ Some x → is_dirty x ≡ false
+    → victim_of new ≡ frame_at new (place_of f n)
 gives_way old new f n keeps first x at clean = of new.order refl (frame_at new (place_of f n)) refl
   where
     same : frame_at new (place_of f n) ≡ slice_get new.order 0
     same = ap (λ (t : List (Option ℕ)). option_and_then (λ (o : Option ℕ). o) (slice_get t (place_of f n))) keeps.table ∙ first ∙ ap (λ (o : List ℕ). slice_get o 0) (sym keeps.order)
 
-    of : (order : List ℕ) → new.order ≡ order → (o : Option ℕ) → frame_at new (place_of f n) ≡ o → IsSome (find (is_clean new.frames) new.order)
+    of : (order : List ℕ) → new.order ≡ order → (o : Option ℕ) → frame_at new (place_of f n) ≡ o → find (is_clean new.frames) new.order ≡ frame_at new (place_of f n)
     of order e None is = (let none : None ≡ Some x = sym (ap (λ (y : Option ℕ). option_and_then (λ frame. slice_get new.frames frame) y) is) ∙ at in absurd (cc (none)))
     of [] e (Some m) is = (let none : Some m ≡ None = sym is ∙ same ∙ ap (λ (y : List ℕ). slice_get y 0) e in absurd (cc (none)))
     of (k ∷ ks) e (Some m) is =
         let head : Some m ≡ Some k = sym is ∙ same ∙ ap (λ (y : List ℕ). slice_get y 0) e in
         let m_is : m ≡ k = cc (head) in
         let there : slice_get new.frames m ≡ Some x = sym (ap (λ (y : Option ℕ). option_and_then (λ frame. slice_get new.frames frame) y) is) ∙ at in
-        subst (λ (y : List ℕ). IsSome (find (is_clean new.frames) y)) (sym e)
-        (find_first (is_clean new.frames) k ks (clean_at new.frames k x (ap (slice_get new.frames) (sym m_is) ∙ there) clean))
+        ap (find (is_clean new.frames)) e
+        ∙ find_first (is_clean new.frames) k ks (clean_at new.frames k x (ap (slice_get new.frames) (sym m_is) ∙ there) clean)
+        ∙ sym (is ∙ head)
 
 -- a block of which nothing is to be drawn
 pub none_dirty : {D B : Type 0} (blocks : View D) (r : Option B) → ((f n : ℕ) → InCache blocks.cache f n (λ x. is_dirty x ≡ true) → IsSome r) → IfNone r ((f n : ℕ) → n < 256 → IsClean blocks f n)
@@ -177,20 +179,22 @@ none_dirty {B = B} blocks None least = λ f n few. clean f n few (entry_at block
 pub clean_frame : (x : Frame) → dirty_in (Some x) ≡ false → half_in (Some x) ≡ false → is_dirty x ≡ false
 clean_frame x d h = or_from x.dirty (not (is_settled x.phase)) d h
 
--- once the block that stood first was drawn, there is room
-pub room_made : (old new : CacheView) (f n : ℕ) → IsCache new → KeepsFrames old new → frame_at old (place_of f n) ≡ slice_get old.order 0 → (x : Frame) → entry_at old f n ≡ Some x
-    → dirty_in (entry_at new f n) ≡ false → half_in (entry_at new f n) ≡ false → IsSome (victim_of new)
-room_made old new f n cache keeps first x at clean whole = of (frame_at old (place_of f n)) refl
+-- once the block that stood first was drawn, where none could give way, its frame does
+pub way_made : (old new : CacheView) (f n : ℕ) → IsCache new → KeepsFrames old new → victim_of old ≡ None → frame_at old (place_of f n) ≡ slice_get old.order 0 → (x : Frame) → entry_at old f n ≡ Some x
+    → dirty_in (entry_at new f n) ≡ false → half_in (entry_at new f n) ≡ false → IsSome (victim_of new) × (frame_giving_way new ≡ frame_giving_way old)
+way_made old new f n cache keeps full first x at clean whole = of (frame_at old (place_of f n)) refl
   where
     same : frame_at new (place_of f n) ≡ frame_at old (place_of f n)
     same = ap (λ (t : List (Option ℕ)). option_and_then (λ (o : Option ℕ). o) (slice_get t (place_of f n))) keeps.table
 
-    of : (o : Option ℕ) → frame_at old (place_of f n) ≡ o → IsSome (victim_of new)
+    of : (o : Option ℕ) → frame_at old (place_of f n) ≡ o → IsSome (victim_of new) × (frame_giving_way new ≡ frame_giving_way old)
     of None e = (let none : None ≡ Some x = sym (ap (λ (y : Option ℕ). option_and_then (λ frame. slice_get old.frames frame) y) e) ∙ at in absurd (cc (none)))
     of (Some k) e =
         let held = cache.held (place_of f n) k (same ∙ e) in
         let now : entry_at new f n ≡ Some held.0 = ap (λ (y : Option ℕ). option_and_then (λ frame. slice_get new.frames frame) y) (same ∙ e) ∙ held.1 in
-        gives_way old new f n keeps first held.0 now (clean_frame held.0 (ap dirty_in (sym now) ∙ clean) (ap half_in (sym now) ∙ whole))
+        let victim : victim_of new ≡ Some k = gives_way old new f n keeps first held.0 now (clean_frame held.0 (ap dirty_in (sym now) ∙ clean) (ap half_in (sym now) ∙ whole)) ∙ same ∙ e in
+        let was : frame_giving_way old ≡ Some k = ap (λ (o : Option ℕ). or_else o (slice_get old.order 0)) full ∙ sym first ∙ e in
+        (ap is_some victim, ap (λ (o : Option ℕ). or_else o (slice_get new.order 0)) victim ∙ sym was)
 
 -- the first of two places, by files and then by numbers
 in_order : (f n g m : ℕ) → n < 256 → m < 256 → place_of f n ≤ place_of g m → (f < g) ⊎ ((f ≡ g) × (n ≤ m))

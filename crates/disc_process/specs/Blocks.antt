@@ -1,5 +1,5 @@
 -- What a disc says of the blocks of its volume.
-use Rattle.std.specs.Prelude.{◌≡◌, ◌≢◌, ◌⊎◌, ℕ, ◌<◌, ◌-◌, Bool, true, false, List, Option, Some, None, unwrap_or}
+use Rattle.std.specs.Prelude.{◌≡◌, ◌≢◌, ◌⊎◌, ℕ, ◌<◌, ◌-◌, Bool, true, false, List, Option, Some, None, slice_get, unwrap_or}
 use Rattle.std.specs.Option.{option_map}
 use Rattle.keyed_file.specs.Block.{KeyedBlock, has_key}
 use Rattle.keyed_file.specs.Search.{with_record}
@@ -8,7 +8,7 @@ use Rattle.tmf_model.specs.Place.{block_of}
 use Rattle.block_cache.specs.declared.frame.Frame.{Frame}
 use Rattle.block_cache.specs.declared.pair.PairPhase.TheVariants.{Offered, Settled, Written}
 use Rattle.block_cache.specs.Blocks.{View, is_changed, is_half_drawn}
-use Rattle.block_cache.specs.Cache.{KeepsFrames, entry_at}
+use Rattle.block_cache.specs.Cache.{CacheView, KeepsFrames, entry_at, frame_at, place_of, victim_of}
 
 -- the block that is in the cache
 abbrev pub cached : {D : Type 0} → View D → ℕ → ℕ → Option KeyedBlock
@@ -76,15 +76,31 @@ pub record KeepsContents {D : Type 0} (old new : View D) (file number : ℕ) : T
 abbrev pub IsHeldUp : Option Frame → Option Frame → Type 0
 IsHeldUp old new = (new ≡ old) ⊎ (half_in new ≡ true)
 
--- the block is in the cache as it was, or is there no more
-abbrev pub IsKeptOrGone : {D : Type 0} → View D → View D → ℕ → ℕ → Type 0
-IsKeptOrGone old new file number = (cached new file number ≡ cached old file number) ⊎ (cached new file number ≡ None)
+-- the first, or where there is none the second
+abbrev pub or_else : Option ℕ → Option ℕ → Option ℕ
+or_else (Some n) other = Some n
+or_else None other = other
+
+-- The frame that gives way for a block which no frame has: that of the least recently used block which need not be drawn, or where there is none, of the least
+-- recently used one, which is drawn first.
+abbrev pub frame_giving_way : CacheView → Option ℕ
+frame_giving_way cache = or_else (victim_of cache) (slice_get cache.order 0)
+
+-- a block has gone from the cache, for another one, which no frame had: the frame that gives way had it
+pub record HasGivenWay {D : Type 0} (old new : View D) (file number gone_file gone_number : ℕ) : Type 0 where
+  pub gone : cached new gone_file gone_number ≡ None
+  pub missed : frame_at old.cache (place_of file number) ≡ None
+  pub frame : frame_at old.cache (place_of gone_file gone_number) ≡ frame_giving_way old.cache
+
+-- each block but this one is in the cache as it was, or has given way for this one
+abbrev pub KeepsOthers : {D : Type 0} → View D → View D → ℕ → ℕ → Type 0
+KeepsOthers old new file number = (g n : ℕ) → n < 256 → (g ≢ file) ⊎ (n ≢ number) → (cached new g n ≡ cached old g n) ⊎ HasGivenWay old new file number g n
 
 -- the cache has each block that it had
 abbrev pub SameCached : {D : Type 0} → View D → View D → Type 0
 SameCached old new = (file number : ℕ) → number < 256 → cached new file number ≡ cached old file number
 
--- A block may have been brought into the cache: it was not there, or is as it was. Each other one is as it was, or has given way.
+-- A block may have been brought into the cache: it was not there, or is as it was. Each other one is as it was, or has given way for it.
 pub record BringsIn {D : Type 0} (old new : View D) (file number : ℕ) : Type 0 where
   pub was : number < 256 → (cached old file number ≡ None) ⊎ (cached new file number ≡ cached old file number)
-  pub others : (g n : ℕ) → n < 256 → (g ≢ file) ⊎ (n ≢ number) → IsKeptOrGone old new g n
+  pub others : KeepsOthers old new file number

@@ -17,8 +17,8 @@ use Rattle.audit_writer.specs.declared.lock.FlushRefused.{FlushRefused}
 use Rattle.audit_writer.specs.declared.lock.FlushRefused.TheVariants as refused
 use Rattle.block_cache.specs.declared.frame.Frame.{Frame}
 use Rattle.block_cache.specs.Blocks.{InCache, View}
-use Rattle.block_cache.specs.Cache.{entry_at, frame_at, is_dirty, place_of, victim_of}
-use Rattle.disc_process.specs.Blocks.{IsHeldUp, KeepsContents, dirty_in, ended_in, half_in, position_in}
+use Rattle.block_cache.specs.Cache.{KeepsFrames, entry_at, frame_at, is_dirty, place_of, victim_of}
+use Rattle.disc_process.specs.Blocks.{IsHeldUp, KeepsContents, dirty_in, ended_in, frame_giving_way, half_in, position_in}
 use Rattle.audit_writer.specs.Locked.{HasFailed as HasTrailFailed}
 use Rattle.disc_process.specs.Disc.{DiscView}
 use Rattle.disc_process.specs.Seats.{IsLaterSeat}
@@ -79,13 +79,20 @@ pub record MakeRoom {D : Type 0} (blocks : View D) (f n : ℕ) (events : List Ev
   pub dirty : InCache blocks.cache other_file other_number (λ x. is_dirty x ≡ true)
   pub of_one : events ≡ endings other_file other_number (entry_at blocks.cache other_file other_number) ++ drawings other_file other_number (entry_at blocks.cache other_file other_number)
 
--- the block is in the cache, or a frame gives way for it
+-- the block is in the cache, or some frame can give way for it with nothing to draw
 abbrev pub HasRoom : {D : Type 0} → View D → ℕ → ℕ → Type 0
 HasRoom blocks f n = entry_at blocks.cache f n ≡ None → IsSome (victim_of blocks.cache)
 
 -- no draws, where there was room for the block; or such
 abbrev pub AreForRoom : {D : Type 0} → View D → ℕ → ℕ → List Event → Type 0
 AreForRoom blocks f n events = ((events ≡ []) × HasRoom blocks f n) ⊎ MakeRoom blocks f n events
+
+-- Room was made for a block: a frame can give way for it with nothing to draw, and it is the one that had to give way. Each frame has the block that it had.
+pub record HasWay {D : Type 0} (old new : View D) (f n : ℕ) : Type 0 where
+  pub room : HasRoom new f n
+  pub label : new.label ≡ old.label
+  pub frames : KeepsFrames old.cache new.cache
+  pub way : frame_giving_way new.cache ≡ frame_giving_way old.cache
 
 -- the disc has had no events but such
 pub record HasMadeRoom {D : Type 0} (blocks : View D) (f n : ℕ) (v w : Sight Event) : Type 0 where

@@ -27,7 +27,7 @@ use Rattle.disc_process.specs.declared.refused.WriteRefused.{WriteRefused}
 use Rattle.disc_process.specs.declared.refused.WriteRefused.TheVariants as refused
 use Rattle.disc_process.specs.declared.found.Found.{Found}
 use Rattle.disc_process.specs.declared.found.Found.TheVariants as found
-use Rattle.disc_process.specs.Blocks.{BringsIn, IsKeptOrGone, cached, with_change}
+use Rattle.disc_process.specs.Blocks.{BringsIn, KeepsOthers, cached, with_change}
 use Rattle.disc_process.specs.Damage.{HadBadBlock, WasRight}
 use Rattle.disc_process.specs.Disc.{DiscView, FindsIn, IsFit, IsSpent, event_of}
 use Rattle.disc_process.specs.Draw.{AreDraws, AreForRoom, HasDrawn, HasMadeRoom, HasSoughtRoom, IsDrawRefusal}
@@ -91,12 +91,12 @@ pub record MayBegin {D : Type 0} (old new : DiscView D) (t : Txn) (step : Step) 
   pub free : IsNoOther (holder old.part.events step.file step.key) t.tx
 
 -- The step was begun and has come to this in its block, which is in the cache, behind draws that made room for it. Where that block was in the cache before the step, it is
--- the one that stood there. Each other block of the cache is as it was, or has given way.
+-- the one that stood there. Each other block of the cache is as it was, or has given way for it.
 pub record HasCarriedOut {D : Type 0} (old new : DiscView D) (t_old t_new : Txn) (step : Step) (what : Found) : Type 0 where
   pub begun : MayBegin old new t_old step
   pub block : KeyedBlock
   pub was : (cached old.blocks step.file (home_block old.part.config step.file step.key) ≡ None) ⊎ (cached old.blocks step.file (home_block old.part.config step.file step.key) ≡ Some block)
-  pub others : (f n : ℕ) → n < 256 → (f ≢ step.file) ⊎ (n ≢ home_block old.part.config step.file step.key) → IsKeptOrGone old.blocks new.blocks f n
+  pub others : KeepsOthers old.blocks new.blocks step.file (home_block old.part.config step.file step.key)
   pub finds : FindsIn old.part step (home_block old.part.config step.file step.key) what block
   pub cached : HasBlockAfter new.blocks old.part step what block
   pub drawn : List Event
@@ -125,7 +125,7 @@ pub record IsCrowded {D : Type 0} (kind : disk.Ghosts D) (handed_in : Option D) 
   pub baseless : part.base ≡ None
   pub right : WasRight kind handed_in (home_of blocks step.file (home_block part.config step.file step.key))
 
--- the block of the step's key may have been brought into the cache, where each other one is as it was, or has given way
+-- the block of the step's key may have been brought into the cache, where each other one is as it was, or has given way for it
 abbrev pub BringsHome : {D : Type 0} → DiscView D → DiscView D → Step → Type 0
 BringsHome old new step = BringsIn old.blocks new.blocks step.file (home_block old.part.config step.file step.key)
 

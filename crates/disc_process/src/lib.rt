@@ -1,6 +1,7 @@
 //! Disc processes: the locks, the blocks and the audit of one volume.
 #![tactic(auto)]
 
+mod bring;
 mod disc;
 mod draw;
 mod dump;
@@ -14,6 +15,7 @@ mod parts;
 mod quiet;
 mod refused;
 mod release;
+mod step;
 mod undo;
 mod undo_refused;
 

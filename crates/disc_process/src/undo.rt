@@ -20,9 +20,10 @@ ghost use Rattle.disc_process.specs.Release.{HasFreed, IsReleaseSeen};
 ghost use Rattle.disc_process.specs.Seats.{IsLaterSeat};
 ghost use Rattle.disc_process.specs.Undo.{HasPutBack, HasTakenBack, IsNewest, IsReleaseAnswer, IsRestAnswer, IsUndoAnswer, home_of_change, takes_back, undo_refusal};
 
-use crate::disc::{DiscState, blocks_of, crowded, lawful_words};
+use crate::disc::{DiscState, blocks_of};
 use crate::live::Change;
 use crate::refused::WriteRefused;
+use crate::step::{crowded, lawful_words};
 use crate::undo_refused::UndoRefused;
 use audit_writer::{AuditWriter, DeviceRun};
 use block_cache::BlockNo;

@@ -1,4 +1,4 @@
-use Rattle.std.proofs.Common.{◌≡◌, ◌+◌, ◌≤◌, ℕ, [], ◌∷◌, ◌++◌, List, Result, Err, inr, ap, refl, sym, subst, ◌∙◌}
+use Rattle.std.proofs.Common.{◌≡◌, ◌+◌, ◌≤◌, ℕ, [], ◌∷◌, ◌++◌, List, Result, Err, inr, ap, sym, subst, ◌∙◌}
 use Rattle.std.proofs.lemmas.Result.{err_from_is_err_and}
 use Rattle.std.specs.Prelude.{⊤, IfErr}
 use Rattle.chronicle.specs.Seats.{Sight, own_events}
@@ -26,7 +26,8 @@ returns-in_err-make_room-clause-brings g c = kept_brings c.args.self.now.blocks 
 
 pub returns-in-Ok-clause-brings : goal.returns-in-Ok-clause-brings
 returns-in-Ok-clause-brings g c =
-    brings_then c.args.self.now.blocks c.make_room.new.self.blocks c.load.new.self.blocks c.args.n.file c.args.n.number c.make_room.ensures.same c.load.ensures.brings
+    brings_then c.args.self.now.blocks c.make_room.new.self.blocks c.load.new.self.blocks c.args.n.file c.args.n.number c.make_room.ensures.same c.in_ok-make_room.ensures.way.frames c.in_ok-make_room.ensures.way.way
+    c.load.ensures.brings
 
 pub returns-in-Err-NoMemory-clause-refused : goal.returns-in-Err-NoMemory-clause-refused
 returns-in-Err-NoMemory-clause-refused g c =

@@ -1,13 +1,13 @@
 use Rattle.std.proofs.Common.{◌≡◌, ◌<◌, ◌++◌, true, slice_get, None, inr, refl, sym, subst}
 use Rattle.chronicle.specs.Seats.{own_events}
-use Rattle.std.specs.Option.{IsSome}
 use Rattle.keyed_file.specs.Volume.{blocks_of as label_blocks}
 use Rattle.block_cache.specs.Blocks.{InCache}
-use Rattle.block_cache.specs.Cache.{CacheView, IsCache, KeepsFrames, entry_at, frame_at, is_dirty, place_of, victim_of}
+use Rattle.block_cache.specs.Cache.{IsCache, KeepsFrames, entry_at, frame_at, is_dirty, place_of, victim_of}
 use Rattle.disc_process.specs.Disc.{DiscView}
-use Rattle.disc_process.specs.Draw.{HasBegun, HasMadeRoom, HasRoom, HasSoughtRoom, IsClean, drawings, endings}
+use Rattle.disc_process.specs.Blocks.{frame_giving_way}
+use Rattle.disc_process.specs.Draw.{HasBegun, HasMadeRoom, HasRoom, HasSoughtRoom, HasWay, IsClean, drawings, endings}
 use Rattle.disc_process.proofs.Bringing.{draw_same}
-use Rattle.disc_process.proofs.Caches.{room_made}
+use Rattle.disc_process.proofs.Caches.{way_made}
 use Rattle.disc_process.proofs.Keeping.{err_map, ok_map}
 use Rattle.disc_process.proofs.Rooms.{no_room}
 use Rattle.disc_process.proofs.disc.DiscState.make_room.Goals as goal
@@ -19,16 +19,35 @@ draw_block-drawn-requires-clause-within g c =
     subst (λ (v : DiscView g.row.D.Denot). m.number < label_blocks v.blocks.label.files m.file) c.self.view_is
     (c.in-Some.ensures.valid.cached m.file m.number some.1.0 some.0 some.1.1).within
 
-pub returns-in-Some-clause-room : goal.returns-in-Some-clause-room
-returns-in-Some-clause-room g c =
+pub returns-in-Some-clause-way : goal.returns-in-Some-clause-way
+returns-in-Some-clause-way g c =
     let m = c.in-Some.other in
+    let n = c.args.n in
     let some = c.in-Some.ensures.some in
-    let old : CacheView = c.self.inside.blocks.cache in
-    let new : CacheView = c.draw_block-drawn.new.self.blocks.cache in
-    let cache : IsCache new = subst (λ (v : DiscView g.row.D.Denot). IsCache v.blocks.cache) c.self-in-Some.view_is c.always.ensures.frames in
-    ok_map c.draw_block-drawn.result (IsClean c.draw_block-drawn.new.self.blocks m.file m.number) (entry_at new c.args.n.file c.args.n.number ≡ None → IsSome (victim_of new))
-    (λ clean none. room_made old new m.file m.number cache (subst (λ (v : DiscView g.row.D.Denot). KeepsFrames v.blocks.cache new) (sym c.self.view_is) c.draw_block-drawn.ensures.frame.contents.frames) c.in-Some.ensures.exact.2 some.1.0 some.1.1 clean.clean clean.whole)
-    c.draw_block-drawn.ensures.clean
+    let exact = c.in-Some.ensures.exact in
+    let a = c.draw_block-drawn in
+    let was = c.self.inside.blocks in
+    let new = a.new.self.blocks in
+    let cache : IsCache new.cache = subst (λ (v : DiscView g.row.D.Denot). IsCache v.blocks.cache) c.self-in-Some.view_is c.always.ensures.frames in
+    let frames : KeepsFrames was.cache new.cache = subst (λ (v : DiscView g.row.D.Denot). KeepsFrames v.blocks.cache new.cache) (sym c.self.view_is) a.ensures.frame.contents.frames in
+    ok_map a.result (IsClean new m.file m.number) (HasWay c.args.self.now.blocks new n.file n.number)
+    (λ clean.
+    let made = way_made was.cache new.cache m.file m.number cache frames exact.1 exact.2 some.1.0 some.1.1 clean.clean clean.whole in
+    record {
+      room = λ none. made.0;
+      label = a.ensures.frame.contents.label;
+      frames = a.ensures.frame.contents.frames;
+      way = subst (λ (v : DiscView g.row.D.Denot). frame_giving_way new.cache ≡ frame_giving_way v.blocks.cache) c.self.view_is made.1;
+    })
+    a.ensures.clean
+
+pub returns-in-None-clause-way : goal.returns-in-None-clause-way
+returns-in-None-clause-way g c = record {
+  room = subst (λ (v : DiscView g.row.D.Denot). HasRoom v.blocks c.args.n.file c.args.n.number) c.self.view_is c.in-None.ensures.none;
+  label = refl;
+  frames = record { table = refl; order = refl };
+  way = refl;
+}
 
 pub returns-in-Some-clause-same : goal.returns-in-Some-clause-same
 returns-in-Some-clause-same g c =
