@@ -407,6 +407,17 @@ module _ {D : Type 0} (kind : disk.Ghosts D) (config : Config) where
             }),
       ))
 
+  -- so of a script whose lines are given to nobody
+  pub unheard-prints : IsValidConfig config → (actions : List Action) → All (IsValidAction config) actions → (old new : List (Fuse D)) (end : ScriptEnd) → EndsPlaying kind config actions old new end ⊥ [] []
+      → PrintsBy kind config actions (code_of (end_status end)) old new ⊥ [] []
+  unheard-prints valid actions are old new (GiveFault fault) ends = unsaid-prints valid actions are old new ⊥ [] [] fault ends
+  unheard-prints valid actions are old new (Stopped stop.NoMemory) ends =
+      stopped-prints valid actions are old new ⊥ [] [] [] 0 0 stop.NoMemory status.NoMemory ends (λ no. absurd no) (λ no. absurd no) (λ no. absurd no) (λ is. refl) (λ e. absurd (cc)) tt
+  unheard-prints valid actions are old new (Stopped (stop.Failed device)) ends =
+      stopped-prints valid actions are old new ⊥ [] [] [] 0 0 (stop.Failed device) status.Stopped ends (λ no. absurd no) (λ no. absurd no) (λ no. absurd no) (λ e. absurd (cc)) (λ e. absurd (cc)) tt
+  unheard-prints valid actions are old new (Stopped (stop.Damaged device)) ends =
+      stopped-prints valid actions are old new ⊥ [] [] [] 0 0 (stop.Damaged device) status.Stopped ends (λ no. absurd no) (λ no. absurd no) (λ no. absurd no) (λ e. absurd (cc)) (λ e. absurd (cc)) tt
+
   -- the same where nothing was given to the sink before
   pub prints-before : (actions : List Action) (code : ℕ) (old new : List (Fuse D)) (first tells : Type 0) (before mid after : List ℕ) → (first → tells) → (first → mid ≡ before) → PrintsBy kind config actions code old new tells mid after
       → PrintsBy kind config actions code old new first before after

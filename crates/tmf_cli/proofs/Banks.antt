@@ -1,6 +1,7 @@
 -- A script's actions whose lines are collected, and the bank's, of which five lines tell what they came to.
 use Rattle.std.specs.Prelude.{Option, None}
 use Rattle.std.proofs.Common.{◌≡◌, ◌≢◌, ◌⊎◌, ◌≤◌, ◌++◌, ◌∷◌, [], ℕ, List, IsTrue, length, refl, sym, ap, subst, ◌∙◌, inl, inr, ⊎_elim, arith}
+use Rattle.std.proofs.lemmas.List.Elements.{recursion_from_All}
 use Rattle.disk_model.specs.Devices.{FuseRestarts}
 use Rattle.disk_model.specs.Held.{Held}
 use Rattle.disk_model.specs.declared.disk.Disk as disk
@@ -9,6 +10,7 @@ use Rattle.run_outcomes.specs.Devices.{devices}
 use Rattle.trail_replay.specs.declared.stop.Stop.TheVariants as stop
 use Rattle.tmf_edges.specs.Moves.{AppendsPart}
 use Rattle.tmf_edges.specs.declared.sink.Sink as sink
+use Rattle.tmf_model.specs.Script.{IsValidAction, IsValidScript}
 use Rattle.tmf_model.specs.declared.config.Config.{Config}
 use Rattle.tmf_model.specs.declared.script.Action.{Action}
 use Rattle.tmf_model.specs.declared.script.Phase.{Phase}
@@ -23,10 +25,12 @@ use Rattle.tmf_cli.specs.declared.status.ScriptEnd.TheVariants.{GiveFault, Stopp
 use Rattle.tmf_cli.specs.declared.status.Status.{Status}
 use Rattle.tmf_cli.specs.declared.status.Status.TheVariants as status
 use Rattle.tmf_cli.specs.ActionGiven.{EndsAction, EndsScript, KeepsSink}
-use Rattle.tmf_cli.specs.Bank.{AnswersBank, CollectsAll, GivesSummary, HasCollected, IsSummed, TellsBank, end_status}
+use Rattle.tmf_cli.specs.AnyDevices.{HavePrinted, first_state}
+use Rattle.tmf_cli.specs.Bank.{AnswersBank, CollectsAll, EndsBank, GivesSummary, HasCollected, IsSummed, PrintsBank, TellsBank, end_status}
 use Rattle.tmf_cli.specs.BetweenActions.{HasDone, Knows, LeavesBay, OthersRestarted, node_of}
 use Rattle.tmf_cli.specs.Call.{KeepsBay}
 use Rattle.tmf_cli.specs.Countdown.{IsOff, KeepsCounts, NoneCut, NoneKilled, OnceSwitched, kill_of}
+use Rattle.tmf_cli.specs.Counts.{AreCounted}
 use Rattle.tmf_cli.specs.Ending.{EndsWhole, opening}
 use Rattle.tmf_cli.specs.Headline.{KeepsEveryCommit}
 use Rattle.tmf_cli.specs.OutputLaw.{Candidate, MayStand, Node, ToldBy}
@@ -38,6 +42,7 @@ use Rattle.tmf_cli.proofs.Endings.{tells-not-said, tells-stopped}
 use Rattle.tmf_cli.proofs.FaultlessLines.{faultless}
 use Rattle.tmf_cli.proofs.Openings.{bay-keeps, bay-off, bay-uncut}
 use Rattle.tmf_cli.proofs.Playing.{Running, others-none, running-begin, running-more}
+use Rattle.tmf_cli.proofs.PrintedCounts.{all-counted}
 use Rattle.tmf_cli.proofs.Promises.{promised, promised-whole}
 use Rattle.tmf_cli.proofs.Statuses.{code-done, code-sink}
 
@@ -196,6 +201,21 @@ gives-status transfers how before after lines whole part none is = record {
 pub summed-status : (how : Status) → (how ≡ status.Done) ⊎ (how ≡ status.SinkFailed) ⊎ (how ≡ status.NoMemory) → IsSummed (code_of how) ⊎ (code_of how ≡ 2)
 summed-status how is = ⊎_elim (λ done. inl (inl (ap code_of done))) (λ more. ⊎_elim (λ sunk. inl (inr (ap code_of sunk))) (λ memory. inr (ap code_of memory)) more) is
 
+-- all of the bank's actions were done over any devices, with these lines
+module _ {D : Type 0} (kind : disk.Ghosts D) (transfers : ℕ) (valid : IsValidScript (bank_script transfers)) (old new : List (Fuse D)) (lines : List Line)
+    (told : HavePrinted kind (bank_script transfers).config (bank_script transfers).actions old lines new) where
+  counted : AreCounted kind.faults (bank_script transfers).config lines old new
+  counted = all-counted kind (bank_script transfers).config valid.config (bank_script transfers).actions first_state told.0 old new lines
+      (recursion_from_All (IsValidAction (bank_script transfers).config) (bank_script transfers).actions valid.actions) told.1
+
+  -- and what the lines come to was to be given
+  pub bank-printed : (code : ℕ) (sink : Type 0) (before after : List ℕ) → (sink → GivesSummary transfers code before after lines) → PrintsBank kind transfers code old new sink before after
+  bank-printed code sink before after given = record { lines = lines; told = told; counted = counted; given = given }
+
+  -- or could not be
+  pub bank-done : EndsBank kind transfers old new
+  bank-done = (0, inl refl, inl (refl, record { lines = lines; left = told.0; told = told.1; counted = counted; given = λ no. absurd no }))
+
 -- none of the bank's actions is to be cut off
 pub bank-unkilled : (transfers : ℕ) → NoneKilled (bank_script transfers).actions
 bank-unkilled transfers = (refl, (refl, (refl, (refl, (refl, tt)))))
@@ -228,6 +248,7 @@ bank-unbegun sinks disks transfers sink old keeps same = record {
   told = λ candidates tell opens.
       inl (bank-ended disks.held disks.faults transfers candidates old old (IsTrue (sinks.tells sink)) (sinks.given sink) (sinks.given sink) status.NoMemory (inl refl) opens.stands (inl (refl, λ no. absurd no)) (λ t. refl));
   printed = λ summed. absurd (none-summed status.NoMemory (inl refl) summed);
+  ended = λ two. inl (2, inr refl, inr (inl (inl refl, (refl, λ no. absurd no))));
   silent = λ unsummed t. refl;
   sink_failed = λ e. absurd (omega (arith, e));
   keeps_sink = keeps;

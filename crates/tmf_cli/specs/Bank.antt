@@ -18,10 +18,11 @@ use Rattle.tmf_cli.specs.declared.status.ScriptEnd.TheVariants.{GiveFault, Stopp
 use Rattle.tmf_cli.specs.declared.status.Status.{Status}
 use Rattle.tmf_cli.specs.declared.status.Status.TheVariants as status
 use Rattle.tmf_cli.specs.ActionGiven.{KeepsSink}
-use Rattle.tmf_cli.specs.AnyDevices.{HavePrinted, Prints}
+use Rattle.tmf_cli.specs.AnyDevices.{HavePrinted, Prints, PrintsBy}
 use Rattle.tmf_cli.specs.BetweenActions.{HasDone, OthersRestarted}
 use Rattle.tmf_cli.specs.Call.{KeepsBay}
 use Rattle.tmf_cli.specs.Countdown.{IsOff, NoneCut, OnceSwitched}
+use Rattle.tmf_cli.specs.Counts.{AreCounted}
 use Rattle.tmf_cli.specs.Ending.{opening}
 use Rattle.tmf_cli.specs.Faultless.{AreFaultless}
 use Rattle.tmf_cli.specs.Headline.{KeepsEveryCommit}
@@ -72,19 +73,25 @@ pub record TellsBank {D : Type 0} (held : D → Held) (faults : D → ℕ) (tran
   pub given : sink → GivesSummary transfers code before after promise.lines
   pub faultless : NoneRose faults old new → IsSummed code → AreFaultless promise.lines
 
--- Over any devices, the actions of the bank's script were done with these lines, and the sink was given what they come to.
+-- Over any devices, the actions of the bank's script were done with these lines, which tell of no device more often than it has failed, and the sink was given what they come to.
 pub record PrintsBank {D : Type 0} (kind : disk.Ghosts D) (transfers code : ℕ) (old new : List (Fuse D)) (sink : Type 0) (before after : List ℕ) : Type 0 where
   pub lines : List Line
   pub told : HavePrinted kind (bank_script transfers).config (bank_script transfers).actions old lines new
+  pub counted : AreCounted kind.faults (bank_script transfers).config lines old new
   pub given : sink → GivesSummary transfers code before after lines
 
--- What `tmf bank N` answers: status 0 where the five lines were given, 4 where the sink failed at them, and 2 for want of memory. No device ends it, since its run is not single. No call is cut; where anything
--- was begun, the countdown is off.
+-- over any devices, the actions of the bank's script, whose lines are given to nobody, were all done, as with status 0; or it ended in one of them, or before the first, as with status 2
+abbrev pub EndsBank : {D : Type 0} → disk.Ghosts D → ℕ → List (Fuse D) → List (Fuse D) → Type 0
+EndsBank kind transfers old new = (how : ℕ) × ((how ≡ 0) ⊎ (how ≡ 2)) × PrintsBy kind (bank_script transfers).config (bank_script transfers).actions how old new ⊥ [] []
+
+-- What `tmf bank N` answers: status 0 where the five lines were given, 4 where the sink failed at them, and else 2, that of want of memory. It never has status 6, with which a device ends a script: only a
+-- single run is ended so, and the run of the bank's script is none. No call is cut; where anything was begun, the countdown is off.
 pub record AnswersBank {K D : Type 0} (sinks : sink.Ghosts K) (disks : disk.Ghosts D) (transfers code : ℕ) (sink sink_now : K) (old new : List (Fuse D)) : Type 0 where
   pub status : IsSummed code ⊎ (code ≡ 2)
   pub told : (candidates : Option (List Candidate)) → DevicesTell disks.tells old → Opens disks.held (bank_script transfers) old candidates
       → OnceSwitched (λ opened. TellsBank disks.held disks.faults transfers candidates code opened new (IsTrue (sinks.tells sink)) (sinks.given sink) (sinks.given sink_now)) old
   pub printed : IsSummed code → OnceSwitched (λ opened. PrintsBank disks transfers code opened new (IsTrue (sinks.tells sink)) (sinks.given sink) (sinks.given sink_now)) old
+  pub ended : code ≡ 2 → OnceSwitched (λ opened. EndsBank disks transfers opened new) old
   pub silent : ¬ IsSummed code → IsTrue (sinks.tells sink) → sinks.given sink_now ≡ sinks.given sink
   pub sink_failed : code ≡ 4 → Rose (sinks.faults sink) (sinks.faults sink_now)
   pub keeps_sink : KeepsSink sinks sink sink_now

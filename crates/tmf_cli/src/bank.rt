@@ -9,7 +9,7 @@ ghost use Rattle.tmf_script.specs.Bank.{bank_script};
 ghost use Rattle.tmf_lines.specs.Summary.{summary_text};
 ghost use Rattle.tmf_cli.specs.declared.status.Status.{Status};
 ghost use Rattle.tmf_cli.specs.ActionGiven.{EndsAction, EndsScript, KeepsSink};
-ghost use Rattle.tmf_cli.specs.AnyDevices.{EndsPlaying, EndsPrinting, HavePrinted};
+ghost use Rattle.tmf_cli.specs.AnyDevices.{EndsPlaying, EndsPrinting, HavePrinted, PrintsBy};
 ghost use Rattle.tmf_cli.specs.Bank.{AnswersBank, CollectsAll, HasCollected, HasGathered, end_status};
 ghost use Rattle.tmf_cli.specs.BetweenActions.{IsBounded, Knows, LeavesBay, node_of};
 ghost use Rattle.tmf_cli.specs.Countdown.{IsOff, NoneKilled, OnceSwitched, kill_of};
@@ -128,7 +128,8 @@ fn carry_out_bank<R: Threads + Wait + Sync, D: Disk + Send>(
         → OnOk result.0 (OnceSwitched (λ opened. CollectsAll D.held D.faults script.now.config (opening candidates) script.now.actions opened lines.new.items result.1) bay) }
     ensures ended { (candidates : Option (List Candidate)) → DevicesTell D.tells bay → Opens D.held script.now bay candidates
         → IfErr result.0 (λ how. OnceSwitched (λ opened. Tells D.held D.faults script.now candidates how opened result.1 ⊥ [] []) bay) }
-    ensures prints { OnOk result.0 (OnceSwitched (λ opened. HavePrinted D.Disk script.now.config script.now.actions opened lines.new.items result.1) bay) }
+    ensures prints { MatchResult result.0 (λ _. OnceSwitched (λ opened. HavePrinted D.Disk script.now.config script.now.actions opened lines.new.items result.1) bay)
+        (λ how. OnceSwitched (λ opened. PrintsBy D.Disk script.now.config script.now.actions (code_of how) opened result.1 ⊥ [] []) bay) }
     ensures how { IfErr result.0 (λ how. (how ≡ Status.NoMemory) ⊎ (how ≡ Status.Stopped)) }
     ensures unstopped { NoneSingle script.now.config script.now.actions → IfErr result.0 (λ how. how ≡ Status.NoMemory) }
     ensures keeps { OnceSwitched (λ opened. LeavesBay D.Disk script.now.config (NoneKilled script.now.actions) opened result.1) bay }

@@ -8,13 +8,14 @@ use Rattle.tmf_cli.specs.Bank.{CollectsAll}
 use Rattle.tmf_cli.specs.BetweenActions.{LeavesBay}
 use Rattle.tmf_cli.specs.Countdown.{NoneKilled}
 use Rattle.tmf_cli.specs.Ending.{opening}
+use Rattle.tmf_cli.specs.Status.{code_of}
 use Rattle.tmf_cli.specs.Top.{Tells}
 use Rattle.tmf_cli.proofs.Banks.{end-how, ended-so}
 use Rattle.tmf_cli.proofs.Countdowns.{set-off, set-switches, switched-tells}
 use Rattle.tmf_cli.proofs.Endings.{opens-knows}
 use Rattle.tmf_cli.proofs.Openings.{opens-switched}
-use Rattle.tmf_cli.specs.AnyDevices.{EndsPlaying, HavePrinted}
-use Rattle.tmf_cli.proofs.AnyDevices.{unsingle-ends}
+use Rattle.tmf_cli.specs.AnyDevices.{EndsPlaying, HavePrinted, PrintsBy}
+use Rattle.tmf_cli.proofs.AnyDevices.{unheard-prints, unsingle-ends}
 use Rattle.tmf_cli.proofs.bank.carry_out_bank.Goals as goal
 
 pub returns-in-Ok-clause-told : goal.returns-in-Ok-clause-told
@@ -86,6 +87,22 @@ returns-in-Ok-clause-prints g c =
       subst (λ actions. HavePrinted g.D.Disk config actions opened c.collect-collected.new.lines.items new) c.as_slice.ensures
           (subst (λ r. MatchResult r (λ _. HavePrinted g.D.Disk config c.as_slice.result.now opened c.collect-collected.new.lines.items new) (λ end. EndsPlaying g.D.Disk config c.as_slice.result.now opened new end ⊥ [] []))
           c.in-Ok.is c.collect-collected.ensures.prints),
+    )
+
+pub returns-in-Err-clause-prints : goal.returns-in-Err-clause-prints
+returns-in-Err-clause-prints g c =
+    let config = c.args.script.now.config in
+    let opened = c.disarm.new.self in
+    let new = c.collect-collected.result.1 in
+    inr (
+      opened,
+      set-switches false c.args.bay opened c.disarm.ensures.each,
+      set-off c.args.bay opened c.disarm.ensures.each,
+      subst (λ s. PrintsBy g.D.Disk config c.args.script.now.actions (code_of s) opened new ⊥ [] []) (sym c.status_of.ensures)
+          (unheard-prints g.D.Disk config c.requires.valid.config c.args.script.now.actions c.requires.valid.actions opened new c.in-Err.end
+          (subst (λ actions. EndsPlaying g.D.Disk config actions opened new c.in-Err.end ⊥ [] []) c.as_slice.ensures
+          (subst (λ r. MatchResult r (λ _. HavePrinted g.D.Disk config c.as_slice.result.now opened c.collect-collected.new.lines.items new) (λ end. EndsPlaying g.D.Disk config c.as_slice.result.now opened new end ⊥ [] []))
+          c.in-Err.is c.collect-collected.ensures.prints))),
     )
 
 pub returns-in-Err-clause-unstopped : goal.returns-in-Err-clause-unstopped

@@ -1,18 +1,19 @@
-use Rattle.std.specs.Prelude.{IfErr, OnOk}
+use Rattle.std.specs.Prelude.{IfErr, MatchResult, OnOk}
 use Rattle.std.proofs.Common.{rules, ◌≡◌, ◌⊎◌, ◌++◌, [], IsTrue, refl, sym, ap, subst, ◌∙◌, inl, inr, ⊎_elim, arith}
 use Rattle.disk_model.specs.Devices.{FuseRestarts}
 use Rattle.tmf_edges.specs.Moves.{AppendsPart}
 use Rattle.tmf_lines.specs.Summary.{summary_text}
+use Rattle.tmf_model.specs.Script.{IsValidScript}
 use Rattle.tmf_script.specs.Bank.{bank_script}
 use Rattle.tmf_cli.specs.declared.status.Status.TheVariants as status
-use Rattle.tmf_cli.specs.AnyDevices.{HavePrinted}
-use Rattle.tmf_cli.specs.Bank.{CollectsAll, GivesSummary, PrintsBank, TellsBank}
+use Rattle.tmf_cli.specs.AnyDevices.{HavePrinted, PrintsBy}
+use Rattle.tmf_cli.specs.Bank.{CollectsAll, EndsBank, GivesSummary, PrintsBank, TellsBank}
 use Rattle.tmf_cli.specs.Countdown.{IsSwitched, OnceSwitched}
 use Rattle.tmf_cli.specs.Ending.{opening}
 use Rattle.tmf_cli.specs.Single.{NoneSingle}
 use Rattle.tmf_cli.specs.Status.{code_of}
 use Rattle.tmf_cli.specs.Top.{IsStatusCaused, Opens, Tells}
-use Rattle.tmf_cli.proofs.Banks.{bank-ended, bank-keeps, bank-leaves, bank-off, bank-others, bank-summed, bank-unbegun, bank-uncut, bank-unsingle, gives-status, none-summed, summed-status}
+use Rattle.tmf_cli.proofs.Banks.{bank-done, bank-ended, bank-keeps, bank-leaves, bank-off, bank-others, bank-printed, bank-summed, bank-unbegun, bank-uncut, bank-unsingle, gives-status, none-summed, summed-status}
 use Rattle.tmf_cli.proofs.Countdowns.{once-so, same-length, switched-cuts, switches-same}
 use Rattle.tmf_cli.proofs.Openings.{opens-switched}
 use Rattle.tmf_cli.proofs.Playing.{others-none}
@@ -37,6 +38,10 @@ returns-in-Ok-carried g c =
     (λ sunk. subst (λ ls. AppendsPart before after (summary_text transfers ls)) c.deref.ensures.value (c.sum_up.ensures.part ts sunk)) (c.sum_up.ensures.none ts) c.sum_up.ensures.status) in
     let met = g.met.D.Disk g.world.𝓛 g.world.𝓜 g.world.𝓡 ((λ s x. x), (λ x. x), (λ x. x), λ x. x) in
     let leaves = bank-leaves g.D.Disk met.same_on met.same_itself transfers c.in-Ok.script c.args.bay new same carried.ensures.keeps in
+    let valid = subst IsValidScript same c.in-Ok.ensures.valid in
+    let prints = subst (λ s. OnceSwitched (λ opened. HavePrinted g.D.Disk s.config s.actions opened lines new) c.args.bay) same
+    (subst (λ r. MatchResult r (λ _. OnceSwitched (λ opened. HavePrinted g.D.Disk c.in-Ok.script.config c.in-Ok.script.actions opened lines new) c.args.bay)
+    (λ s. OnceSwitched (λ opened. PrintsBy g.D.Disk c.in-Ok.script.config c.in-Ok.script.actions (code_of s) opened new ⊥ [] []) c.args.bay)) c.in-Ok-carried.is carried.ensures.prints) in
     record {
       status = summed-status how c.sum_up.ensures.status;
       told = λ candidates tell opens.
@@ -50,9 +55,10 @@ returns-in-Ok-carried g c =
       printed = λ summed.
           once-so (λ opened. HavePrinted g.D.Disk (bank_script transfers).config (bank_script transfers).actions opened lines new)
           (λ opened. PrintsBank g.D.Disk transfers (code_of how) opened new (IsTrue (g.K.Sink.tells c.args.sink.now)) before after) c.args.bay
-          (λ opened switched told. record { lines = lines; told = told; given = gives })
-          (subst (λ s. OnceSwitched (λ opened. HavePrinted g.D.Disk s.config s.actions opened lines new) c.args.bay) same
-          (subst (λ r. OnOk r (OnceSwitched (λ opened. HavePrinted g.D.Disk c.in-Ok.script.config c.in-Ok.script.actions opened lines new) c.args.bay)) c.in-Ok-carried.is carried.ensures.prints));
+          (λ opened switched told. bank-printed g.D.Disk transfers valid opened new lines told (code_of how) (IsTrue (g.K.Sink.tells c.args.sink.now)) before after gives) prints;
+      ended = λ two.
+          once-so (λ opened. HavePrinted g.D.Disk (bank_script transfers).config (bank_script transfers).actions opened lines new) (λ opened. EndsBank g.D.Disk transfers opened new) c.args.bay
+          (λ opened switched told. bank-done g.D.Disk transfers valid opened new lines told) prints;
       silent = λ unsummed ts. (gives ts).none unsummed;
       sink_failed = λ four. subst (λ s. IsStatusCaused s (g.K.Sink.faults c.args.sink.now) (g.K.Sink.faults c.sum_up.new.sink)) (code-sink how four) c.sum_up.ensures.cause;
       keeps_sink = c.sum_up.ensures.keeps;
@@ -86,6 +92,12 @@ returns g c =
           (subst (λ r. IfErr r (λ s. OnceSwitched (λ opened. Tells g.D.Disk.held g.D.Disk.faults c.in-Ok.script candidates s opened new ⊥ [] []) c.args.bay)) c.in-Err.is
           (carried.ensures.ended candidates tell (subst (λ s. Opens g.D.Disk.held s c.args.bay candidates) (sym same) opens))));
       printed = λ summed. absurd (none-summed how two summed);
+      ended = λ memory.
+          once-so (λ opened. PrintsBy g.D.Disk (bank_script transfers).config (bank_script transfers).actions (code_of how) opened new ⊥ [] []) (λ opened. EndsBank g.D.Disk transfers opened new) c.args.bay
+          (λ opened switched prints. (code_of how, inr memory, prints))
+          (subst (λ s. OnceSwitched (λ opened. PrintsBy g.D.Disk s.config s.actions (code_of how) opened new ⊥ [] []) c.args.bay) same
+          (subst (λ r. MatchResult r (λ _. OnceSwitched (λ opened. HavePrinted g.D.Disk c.in-Ok.script.config c.in-Ok.script.actions opened carried.new.lines.items new) c.args.bay)
+          (λ s. OnceSwitched (λ opened. PrintsBy g.D.Disk c.in-Ok.script.config c.in-Ok.script.actions (code_of s) opened new ⊥ [] []) c.args.bay)) c.in-Err.is carried.ensures.prints));
       silent = λ unsummed t. refl;
       sink_failed = λ four. absurd (none-summed how two (inr four));
       keeps_sink = record { tells = refl; later = search rules };
