@@ -3,7 +3,7 @@ use Rattle.std.specs.Prelude.{length, max, All, Result, MatchResult, IfOk, IfErr
 use Rattle.std.proofs.Common.{true, false, ◌≡◌, ◌≢◌, ◌⊎◌, ◌≤◌, ◌+◌, ◌++◌, ◌∷◌, [], ℕ, List, refl, sym, ap, subst, ◌∙◌, inl, inr, ⊎_elim, arith}
 use Rattle.std.proofs.lemmas.List.{append-nil, append_assoc}
 use Rattle.std.proofs.lemmas.List.Elements.{recursion_from_All}
-use Rattle.disk_model.specs.Devices.{RoseAt}
+use Rattle.disk_model.specs.Devices.{HoldSame, RoseAt}
 use Rattle.disk_model.proofs.Devices.{rose-after}
 use Rattle.disk_model.specs.declared.disk.Disk as disk
 use Rattle.disk_model.specs.declared.fuse.Fuse.{Fuse}
@@ -54,7 +54,7 @@ use Rattle.tmf_cli.specs.Countdown.{KeepsCounts, kill_of}
 use Rattle.tmf_cli.specs.Counts.{AreCounted}
 use Rattle.tmf_cli.specs.Lost.{lost_flags, up_for}
 use Rattle.tmf_cli.specs.Outcomes.{outcome_lines}
-use Rattle.tmf_cli.specs.OutputLaw.{IsRecoveryLine, IsRollLine, IsRunLine, down, unrolled_state}
+use Rattle.tmf_cli.specs.OutputLaw.{IsRecoveryLine, IsRollLine, IsRunLine, IsUndone, down, unrolled_state}
 use Rattle.tmf_cli.specs.RunLines.{run_lines}
 use Rattle.tmf_cli.specs.Single.{IsSingle, IsUnsingle, NoneSingle, items_of}
 use Rattle.tmf_cli.specs.Status.{code_of, fault_status}
@@ -76,10 +76,6 @@ pub ok-map : {T E : Type 0} (r : Result T E) (P R : T → Type 0) → ((x : T) �
 ok-map (Ok x) P R so is = so x is
 ok-map (Err e) P R so is = tt
 
-pub refusal-map : {T E : Type 0} (r : Result T E) (Q S : E → Type 0) → ((e : E) → Q e → S e) → IfErr r Q → IfErr r S
-refusal-map (Ok x) Q S so is = tt
-refusal-map (Err e) Q S so is = so e is
-
 -- what is so of a refusal
 pub refusal-of : {T E : Type 0} (r : Result T E) (P : T → Type 0) (Q : E → Type 0) → MatchResult r P Q → IfErr r Q
 refusal-of (Ok x) P Q is = tt
@@ -87,13 +83,13 @@ refusal-of (Err e) P Q is = is
 
 module _ {D : Type 0} (kind : disk.Ghosts D) (config : Config) where
   -- for want of memory, an action that prints nothing was broken off
-  pub none-halts : (action : Action) (state : NodeState) (lines : List Line) (why : Stop) → why ≡ stop.NoMemory → lines ≡ [] → Halts kind config why action state lines
-  none-halts Format state lines why memory none = (memory, none)
-  none-halts (Recover kill) state lines why memory none = (memory, none)
-  none-halts (Run phase) state lines why memory none = inl (memory, none)
-  none-halts (Lose volume) state lines why memory none = (memory, none)
-  none-halts (Rollforward volume kill) state lines why memory none = (memory, none)
-  none-halts (ListFile file) state lines why memory none = (memory, none)
+  pub none-halts : (action : Action) (state : NodeState) (old : List (Fuse D)) (lines : List Line) (new : List (Fuse D)) (why : Stop) → why ≡ stop.NoMemory → lines ≡ [] → Halts kind config why action state old lines new
+  none-halts Format state old lines new why memory none = (memory, none)
+  none-halts (Recover kill) state old lines new why memory none = (memory, none)
+  none-halts (Run phase) state old lines new why memory none = inl (memory, none)
+  none-halts (Lose volume) state old lines new why memory none = (memory, none)
+  none-halts (Rollforward volume kill) state old lines new why memory none = (memory, none)
+  none-halts (ListFile file) state old lines new why memory none = (memory, none)
 
   -- lines that were made in the place of none
   pub kept-prints : {V : Type 0} (items : V → List Line) (now before : List Line) (P : List Line → Type 0) (H : Stop → List Line → Type 0) (made : Result V Stop) (r : Result (Unit {0}) Stop)
@@ -104,8 +100,8 @@ module _ {D : Type 0} (kind : disk.Ghosts D) (config : Config) where
   kept-prints items now before P H (Err e) r keeps none halts memory prints = subst (λ s. MatchResult s (λ _. P now) (λ why. H why now)) (sym keeps.1) (halts e memory (keeps.0 ∙ none))
 
   -- what an action has come to where the sink ended the script in it
-  pub ends-begun : (action : Action) (state after : NodeState) (old new : List (Fuse D)) (lines : List Line) (r : Result (Unit {0}) Stop) → MatchResult r (λ _. Prints kind config action state old lines after new) (λ why. Halts kind config why action state lines)
-      → ((left : NodeState) × Prints kind config action state old lines left new) ⊎ ((why : Stop) × Halts kind config why action state lines)
+  pub ends-begun : (action : Action) (state after : NodeState) (old new : List (Fuse D)) (lines : List Line) (r : Result (Unit {0}) Stop) → MatchResult r (λ _. Prints kind config action state old lines after new) (λ why. Halts kind config why action state old lines new)
+      → ((left : NodeState) × Prints kind config action state old lines left new) ⊎ ((why : Stop) × Halts kind config why action state old lines new)
   ends-begun action state after old new lines (Ok x) is = inl (after, is)
   ends-begun action state after old new lines (Err e) is = inr (e, is)
 
@@ -160,34 +156,42 @@ module _ {D : Type 0} (kind : disk.Ghosts D) (config : Config) where
 
   -- A run of one worker
 
-  module _ (phase : Phase) (state : NodeState) (up : Up) (may : up_for config phase state ≡ Some up) (single : IsSingle config phase) (before done : List Outcome) (none : before ≡ []) (lines : List Line)
+  module _ (phase : Phase) (state : NodeState) (up : Up) (may : up_for config phase state ≡ Some up) (single : IsSingle config phase) (before done : List Outcome) (none : before ≡ []) (old new : List (Fuse D)) (lines : List Line)
       (map : RecordMap) (on : AreAddedOn config up.epoch up.place (items_of phase) map before done) (printed : lines ≡ outcome_lines config done) where
     items : PrintsItems kind config phase state done lines
     items = record {
       up = up;
       was_up = may;
       map = map;
-      outcomes = subst (AreOutcomes config up.epoch up.place (items_of phase) map) (sym (on.added ∙ ap (λ (old : List Outcome). old ++ on.done) none)) on.outcomes;
+      outcomes = subst (AreOutcomes config up.epoch up.place (items_of phase) map) (sym (on.added ∙ ap (λ (front : List Outcome). front ++ on.done) none)) on.outcomes;
       printed = printed;
     }
 
-    pub single-prints : (ran : Result (Unit {0}) RunError) (ended : Result (Unit {0}) Stop) → ended ≡ end_of_run ran → OnOk ran (length done ≡ length before + length (items_of phase)) → IfErr ran (λ error. IsRefusal error → done ≡ before)
-        → ((device : ℕ) → ran ≡ Err (run.Stopped (stop.Failed device)) → IsVolumeDevice config device → done ≡ before) → MatchResult ended (λ _. PrintsSingle kind config phase state lines (down state)) (λ why. HaltsRun kind config why phase state lines)
-    single-prints ran ended is all refused unread = subst (λ r. MatchResult r (λ _. PrintsSingle kind config phase state lines (down state)) (λ why. HaltsRun kind config why phase state lines)) (sym is) (of ran refl all refused) where
-      halts : (why : Stop) (reason : RunError) → IsEndOf why reason → ran ≡ Err reason → (IsRefusal reason → done ≡ before) → HaltsRun kind config why phase state lines
+    -- nothing was done
+    abbrev IsIdle : Type 0
+    IsIdle = HoldSame kind.held old new × (done ≡ before)
+
+    undone : IsIdle → IsUndone kind.held old new done
+    undone idle = (idle.1 ∙ none, idle.0)
+
+    pub single-prints : (ran : Result (Unit {0}) RunError) (ended : Result (Unit {0}) Stop) → ended ≡ end_of_run ran → OnOk ran (length done ≡ length before + length (items_of phase)) → IfErr ran (λ error. IsRefusal error → IsIdle)
+        → ((device : ℕ) → ran ≡ Err (run.Stopped (stop.Failed device)) → IsVolumeDevice config device → IsIdle)
+        → MatchResult ended (λ _. PrintsSingle kind config phase state lines (down state)) (λ why. HaltsRun kind config why phase state old lines new)
+    single-prints ran ended is all refused unread = subst (λ r. MatchResult r (λ _. PrintsSingle kind config phase state lines (down state)) (λ why. HaltsRun kind config why phase state old lines new)) (sym is) (of ran refl all refused) where
+      halts : (why : Stop) (reason : RunError) → IsEndOf why reason → ran ≡ Err reason → (IsRefusal reason → IsIdle) → HaltsRun kind config why phase state old lines new
       halts why reason ends was refused = inr (record {
         single = single;
         done = done;
         items = items;
         reason = reason;
         ends = ends;
-        refused = λ refusal. refused refusal ∙ none;
-        unread = λ device e of. unread device (was ∙ ap Err e) of ∙ none;
+        refused = λ refusal. undone (refused refusal);
+        unread = λ device e of. undone (unread device (was ∙ ap Err e) of);
       })
 
-      of : (r : Result (Unit {0}) RunError) → ran ≡ r → OnOk r (length done ≡ length before + length (items_of phase)) → IfErr r (λ error. IsRefusal error → done ≡ before)
-          → MatchResult (end_of_run r) (λ _. PrintsSingle kind config phase state lines (down state)) (λ why. HaltsRun kind config why phase state lines)
-      of (Ok x) was all refused = record { done = done; items = items; all = (let here = all ∙ ap (λ (old : List Outcome). length old + length (items_of phase)) none in omega (arith, here)); left = refl }
+      of : (r : Result (Unit {0}) RunError) → ran ≡ r → OnOk r (length done ≡ length before + length (items_of phase)) → IfErr r (λ error. IsRefusal error → IsIdle)
+          → MatchResult (end_of_run r) (λ _. PrintsSingle kind config phase state lines (down state)) (λ why. HaltsRun kind config why phase state old lines new)
+      of (Ok x) was all refused = record { done = done; items = items; all = (let here = all ∙ ap (λ (front : List Outcome). length front + length (items_of phase)) none in omega (arith, here)); left = refl }
       of (Err (run.Stopped why)) was all refused = halts why (run.Stopped why) (own-end why) was refused
       of (Err (run.Spent disc)) was all refused = halts stop.NoMemory (run.Spent disc) tt was refused
       of (Err (run.Crowded file)) was all refused = halts stop.NoMemory (run.Crowded file) tt was refused
@@ -452,14 +456,15 @@ module _ {D : Type 0} (kind : disk.Ghosts D) (config : Config) where
 -- WHERE NO RUN IS SINGLE
 
 -- an action that is no single run is broken off for want of memory alone
-unsingle-halts : {D : Type 0} (kind : disk.Ghosts D) (config : Config) (action : Action) (state : NodeState) (lines : List Line) (why : Stop) → IsUnsingle config action → Halts kind config why action state lines → why ≡ stop.NoMemory
-unsingle-halts kind config Format state lines why other h = h.0
-unsingle-halts kind config (Recover kill) state lines why other h = h.0
-unsingle-halts kind config (Run phase) state lines why other (inl h) = h.0
-unsingle-halts kind config (Run phase) state lines why other (inr h) = absurd (other phase refl h.single)
-unsingle-halts kind config (Lose volume) state lines why other h = h.0
-unsingle-halts kind config (Rollforward volume kill) state lines why other h = h.0
-unsingle-halts kind config (ListFile file) state lines why other h = h.0
+unsingle-halts : {D : Type 0} (kind : disk.Ghosts D) (config : Config) (action : Action) (state : NodeState) (old : List (Fuse D)) (lines : List Line) (new : List (Fuse D)) (why : Stop) → IsUnsingle config action
+    → Halts kind config why action state old lines new → why ≡ stop.NoMemory
+unsingle-halts kind config Format state old lines new why other h = h.0
+unsingle-halts kind config (Recover kill) state old lines new why other h = h.0
+unsingle-halts kind config (Run phase) state old lines new why other (inl h) = h.0
+unsingle-halts kind config (Run phase) state old lines new why other (inr h) = absurd (other phase refl h.single)
+unsingle-halts kind config (Lose volume) state old lines new why other h = h.0
+unsingle-halts kind config (Rollforward volume kill) state old lines new why other h = h.0
+unsingle-halts kind config (ListFile file) state old lines new why other h = h.0
 
 pub unsingle-at : (config : Config) (front rest : List Action) (action : Action) → NoneSingle config (front ++ action ∷ rest) → IsUnsingle config action
 unsingle-at config [] rest action all = all.0
@@ -473,4 +478,4 @@ unsingle-ends kind config actions old new (GiveFault SinkFailed) sink before aft
 unsingle-ends kind config actions old new (Stopped why) sink before after none sinkless ends =
     let at = ends.reached in
     ap (λ (w : Stop). end_status (Stopped w))
-    (unsingle-halts kind config at.action at.middle ends.more why (unsingle-at config at.done at.rest at.action (subst (NoneSingle config) at.parts none)) ends.ends.0)
+    (unsingle-halts kind config at.action at.middle at.between ends.more new why (unsingle-at config at.done at.rest at.action (subst (NoneSingle config) at.parts none)) ends.ends.0)

@@ -96,7 +96,7 @@ module _ {D : Type 0} (kind : disk.Ghosts D) (config : Config) where
     no-list : (file : ℕ) (old new : List (Fuse D)) (lines : List Line) → IsDeclared config.files file → NoneFalls kind.faults old new → PrintsNoList kind config file old lines new → IsCounted lines old new
     no-list file old new lines declared falls p = by p.error p.failed p.is_line
       where
-        by : (error : ListError) → ((device : ℕ) → error ≡ listing.Failed device → FailedAmong (λ d. d ≡ file_device config file) kind.faults old new device) → IsListLine config file error p.line → IsCounted lines old new
+        by : (error : ListError) → ((device : ℕ) → error ≡ listing.Failed device → (device ≡ file_device config file) × RoseAt kind.faults old new device) → IsListLine config file error p.line → IsCounted lines old new
         by (listing.Failed device) failed is =
             let of = failed device refl in
             blamed old new p.line lines p.printed falls (ListFailed (file_name_of config file) (device_name config device)) device is (ap Some (file-name config valid file device declared of.0)) of.1
@@ -137,14 +137,14 @@ module _ {D : Type 0} (kind : disk.Ghosts D) (config : Config) where
     -- THE LAST ONE
 
     -- an action that was broken off tells of no failed call
-    halts-unfailed : (why : Stop) (done : Action) (state : NodeState) (lines : List Line) → Halts kind config why done state lines → AreUnfailed lines
-    halts-unfailed why action.Format state lines h = subst AreUnfailed (sym h.1) tt
-    halts-unfailed why (action.Recover kill) state lines h = subst AreUnfailed (sym h.1) tt
-    halts-unfailed why (action.Run phase) state lines (inl h) = subst AreUnfailed (sym h.1) tt
-    halts-unfailed why (action.Run phase) state lines (inr h) = subst AreUnfailed (sym h.items.printed) (unfailed-all _ (faultless-outcomes config h.done))
-    halts-unfailed why (action.Lose volume) state lines h = subst AreUnfailed (sym h.1) tt
-    halts-unfailed why (action.Rollforward volume kill) state lines h = subst AreUnfailed (sym h.1) tt
-    halts-unfailed why (action.List file) state lines h = subst AreUnfailed (sym h.1) tt
+    halts-unfailed : (why : Stop) (done : Action) (state : NodeState) (old : List (Fuse D)) (lines : List Line) (new : List (Fuse D)) → Halts kind config why done state old lines new → AreUnfailed lines
+    halts-unfailed why action.Format state old lines new h = subst AreUnfailed (sym h.1) tt
+    halts-unfailed why (action.Recover kill) state old lines new h = subst AreUnfailed (sym h.1) tt
+    halts-unfailed why (action.Run phase) state old lines new (inl h) = subst AreUnfailed (sym h.1) tt
+    halts-unfailed why (action.Run phase) state old lines new (inr h) = subst AreUnfailed (sym h.items.printed) (unfailed-all _ (faultless-outcomes config h.done))
+    halts-unfailed why (action.Lose volume) state old lines new h = subst AreUnfailed (sym h.1) tt
+    halts-unfailed why (action.Rollforward volume kill) state old lines new h = subst AreUnfailed (sym h.1) tt
+    halts-unfailed why (action.List file) state old lines new h = subst AreUnfailed (sym h.1) tt
 
     -- the line of a stop is counted
     stop-counted : (old new : List (Fuse D)) (why : Stop) → NoneFalls kind.faults old new → IsBlamed kind config why old new → IsCounted (stop_lines config why) old new
@@ -158,9 +158,9 @@ module _ {D : Type 0} (kind : disk.Ghosts D) (config : Config) where
     last-counted done state old new more last is falls (inl (none, after, p)) =
         subst (λ l. IsCounted l old new) (sym (append-nil more) ∙ ap (λ l. more ++ l) (sym none)) (prints-counted done state after old new more is falls p)
     last-counted done state old new more last is falls (inr (why, h, inl none)) =
-        counted-behind kind.held kind.faults config valid more last old new (halts-unfailed why done state more h) (none-counted last old new none falls)
+        counted-behind kind.held kind.faults config valid more last old new (halts-unfailed why done state old more new h) (none-counted last old new none falls)
     last-counted done state old new more last is falls (inr (why, h, inr (line, cause))) =
-        counted-behind kind.held kind.faults config valid more last old new (halts-unfailed why done state more h) (subst (λ l. IsCounted l old new) (sym line) (stop-counted old new why falls cause))
+        counted-behind kind.held kind.faults config valid more last old new (halts-unfailed why done state old more new h) (subst (λ l. IsCounted l old new) (sym line) (stop-counted old new why falls cause))
 
     pub up-to-counted : (actions : List Action) (old new : List (Fuse D)) (at : Reached kind config actions old) (more last : List Line) → AllByRecursion (IsValidAction config) actions → NoneFalls kind.faults at.between new
         → IsLast kind config at.action at.middle at.between more last new → IsCounted (at.lines ++ (more ++ last)) old new

@@ -52,7 +52,7 @@ use Rattle.tmf_cli.specs.Counts.{AreCounted}
 use Rattle.tmf_cli.specs.Ending.{EndsUntouched, opening}
 use Rattle.tmf_cli.specs.Lost.{lost_flags, up_for, up_with, with_volume}
 use Rattle.tmf_cli.specs.Outcomes.{outcome_lines}
-use Rattle.tmf_cli.specs.OutputLaw.{FailedAmong, HasFailed, IsFailed, IsRecoveryLine, IsRollLine, IsRunLine, down, formatted_node, unrolled_state}
+use Rattle.tmf_cli.specs.OutputLaw.{FailedAmong, HasFailed, IsFailed, IsRecoveryLine, IsRollLine, IsRunLine, IsUndone, down, formatted_node, unrolled_state}
 use Rattle.tmf_cli.specs.RunLines.{run_lines}
 use Rattle.tmf_cli.specs.Single.{IsSingle, items_of}
 use Rattle.tmf_cli.specs.Top.{stop_lines}
@@ -143,7 +143,7 @@ module _ {D : Type 0} (kind : disk.Ghosts D) (config : Config) where
     pub line : Line
     pub is_line : IsListLine config file error line
     pub printed : lines ≡ line ∷ []
-    pub failed : (device : ℕ) → error ≡ listing.Failed device → FailedAmong (λ d. d ≡ file_device config file) kind.faults old new device
+    pub failed : (device : ℕ) → error ≡ listing.Failed device → (device ≡ file_device config file) × RoseAt kind.faults old new device
 
   -- an action that was not begun prints this line, and leaves all as it was
   abbrev pub IsNotBegun : NodeState → List (Fuse D) → Line → List Line → NodeState → List (Fuse D) → Type 0
@@ -182,24 +182,24 @@ module _ {D : Type 0} (kind : disk.Ghosts D) (config : Config) where
       × Prints action state old first middle between × KeepsCounts kind.faults (kill_of action ≡ None) old between × PrintsAll rest middle between more after new × (lines ≡ first ++ more)
 
   -- A single run was broken off for this reason, with the lines of what its first items have come to. Where it was refused for what its trails or volumes hold, or a volume's device has failed, no item
-  -- was done.
-  pub record HaltsSingle (why : Stop) (phase : Phase) (state : NodeState) (lines : List Line) : Type 0 where
+  -- was done, and each device holds what it held.
+  pub record HaltsSingle (why : Stop) (phase : Phase) (state : NodeState) (old : List (Fuse D)) (lines : List Line) (new : List (Fuse D)) : Type 0 where
     pub single : IsSingle config phase
     pub done : List Outcome
     pub items : PrintsItems phase state done lines
     pub reason : RunError
     pub ends : IsEndOf why reason
-    pub refused : IsRefusal reason → done ≡ []
-    pub unread : (device : ℕ) → reason ≡ RunStopped (stop.Failed device) → IsVolumeDevice config device → done ≡ []
+    pub refused : IsRefusal reason → IsUndone kind.held old new done
+    pub unread : (device : ℕ) → reason ≡ RunStopped (stop.Failed device) → IsVolumeDevice config device → IsUndone kind.held old new done
 
   -- a run was broken off so, or for want of memory, with no lines
-  abbrev pub HaltsRun : Stop → Phase → NodeState → List Line → Type 0
-  HaltsRun why phase state lines = ((why ≡ stop.NoMemory) × (lines ≡ [])) ⊎ HaltsSingle why phase state lines
+  abbrev pub HaltsRun : Stop → Phase → NodeState → List (Fuse D) → List Line → List (Fuse D) → Type 0
+  HaltsRun why phase state old lines new = ((why ≡ stop.NoMemory) × (lines ≡ [])) ⊎ HaltsSingle why phase state old lines new
 
   -- an action was broken off, with these lines to print: a single run alone has any, and is ended by a device
-  abbrev pub Halts : Stop → Action → NodeState → List Line → Type 0
-  Halts why (Run phase) state lines = HaltsRun why phase state lines
-  Halts why _ state lines = (why ≡ stop.NoMemory) × (lines ≡ [])
+  abbrev pub Halts : Stop → Action → NodeState → List (Fuse D) → List Line → List (Fuse D) → Type 0
+  Halts why (Run phase) state old lines new = HaltsRun why phase state old lines new
+  Halts why _ state old lines new = (why ≡ stop.NoMemory) × (lines ≡ [])
 
   -- The actions before one have their lines.
   pub record Reached (actions : List Action) (old : List (Fuse D)) : Type 0 where
@@ -220,7 +220,7 @@ module _ {D : Type 0} (kind : disk.Ghosts D) (config : Config) where
   abbrev pub IsLast : Action → NodeState → List (Fuse D) → List Line → List Line → List (Fuse D) → Type 0
   IsLast action middle between more last new =
       ((last ≡ []) × (after : NodeState) × Prints action middle between more after new)
-      ⊎ ((why : Stop) × Halts why action middle more × ((last ≡ []) ⊎ (last ≡ stop_lines config why) × IsBlamed why between new))
+      ⊎ ((why : Stop) × Halts why action middle between more new × ((last ≡ []) ⊎ ((last ≡ stop_lines config why) × IsBlamed why between new)))
 
   -- What the sink was given behind the lines of the actions before: with status 2 all lines of the last action or none, with 4 a front of them and of the last line, and not all, and with 6 all of them.
   pub record IsGivenBy (code : ℕ) (before after : List ℕ) (more last : List Line) : Type 0 where
@@ -273,8 +273,8 @@ module _ {D : Type 0} (kind : disk.Ghosts D) (config : Config) where
 
   -- how an action ended the script: the sink may have, behind a whole action or one that was broken off; a device, or want of memory, only in one
   abbrev pub EndsBy : ScriptEnd → Action → NodeState → List (Fuse D) → List Line → List (Fuse D) → Type 0
-  EndsBy (GiveFault fault) action state old lines new = ((left : NodeState) × Prints action state old lines left new) ⊎ ((why : Stop) × Halts why action state lines)
-  EndsBy (StoppedBy why) action state old lines new = Halts why action state lines × IsBlamed why old new
+  EndsBy (GiveFault fault) action state old lines new = ((left : NodeState) × Prints action state old lines left new) ⊎ ((why : Stop) × Halts why action state old lines new)
+  EndsBy (StoppedBy why) action state old lines new = Halts why action state old lines new × IsBlamed why old new
 
   -- the script ended in an action
   pub record EndsPrinting (action : Action) (state : NodeState) (old new : List (Fuse D)) (end : ScriptEnd) (sink : Type 0) (before after : List ℕ) : Type 0 where

@@ -221,7 +221,7 @@ fn act_run<R: Threads + Wait + Sync, D: Disk + Send>(
         → OnOk result.0 (HasDone D.held D.faults config.now (RunAction phase.now) (node_of state.old candidates) bay lines.new.items state.new result.1) }
     ensures broken { (candidates : Option (List Candidate)) → DevicesTell D.tells bay → Knows D.held config.now (node_of state.old candidates) bay
         → IfErr result.0 (λ stop. HasBroken D.held D.faults config.now (RunAction phase.now) (node_of state.old candidates) bay lines.new.items stop result.1) }
-    ensures prints { MatchResult result.0 (λ _. Prints D.Disk config.now (RunAction phase.now) state.old bay lines.new.items state.new result.1) (λ why. HaltsRun D.Disk config.now why phase.now state.old lines.new.items) }
+    ensures prints { MatchResult result.0 (λ _. Prints D.Disk config.now (RunAction phase.now) state.old bay lines.new.items state.new result.1) (λ why. HaltsRun D.Disk config.now why phase.now state.old bay lines.new.items result.1) }
     ensures small { IsBounded state.new.up }
     ensures keeps { LeavesBay D.Disk config.now (phase.now.kill ≡ None) bay result.1 }
     ensures cause { (device : ℕ) → result.0 ≡ Err (Stop.Failed device) → HasFailed D.faults config.now bay result.1 device }
@@ -256,7 +256,7 @@ pub fn act<R: Threads + Wait + Sync, D: Disk + Send>(
         → OnOk result.0 (HasDone D.held D.faults config.now action.now (node_of state.old candidates) bay lines.new.items state.new result.1) }
     ensures broken { (candidates : Option (List Candidate)) → DevicesTell D.tells bay → Knows D.held config.now (node_of state.old candidates) bay
         → IfErr result.0 (λ stop. HasBroken D.held D.faults config.now action.now (node_of state.old candidates) bay lines.new.items stop result.1) }
-    ensures prints { MatchResult result.0 (λ _. Prints D.Disk config.now action.now state.old bay lines.new.items state.new result.1) (λ why. Halts D.Disk config.now why action.now state.old lines.new.items) }
+    ensures prints { MatchResult result.0 (λ _. Prints D.Disk config.now action.now state.old bay lines.new.items state.new result.1) (λ why. Halts D.Disk config.now why action.now state.old bay lines.new.items result.1) }
     ensures small { OnOk result.0 (IsBounded state.new.up) }
     ensures keeps { LeavesBay D.Disk config.now (kill_of action.now ≡ None) bay result.1 }
     ensures cause { (device : ℕ) → result.0 ≡ Err (Stop.Failed device) → HasFailed D.faults config.now bay result.1 device }

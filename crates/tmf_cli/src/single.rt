@@ -108,7 +108,7 @@ pub fn act_single<D: Disk>(
     ensures broken { (state : NodeState) (candidates : Option (List Candidate)) → up_for config.now phase.now state ≡ Some up → DevicesTell D.tells bay → Knows D.held config.now (node_of state candidates) bay
         → IfErr result.0 (λ stop. HasBroken D.held D.faults config.now (RunAction phase.now) (node_of state candidates) bay lines.new.items stop result.1) }
     ensures prints { (state : NodeState) → up_for config.now phase.now state ≡ Some up
-        → MatchResult result.0 (λ _. PrintsSingle D.Disk config.now phase.now state lines.new.items (down state)) (λ why. HaltsRun D.Disk config.now why phase.now state lines.new.items) }
+        → MatchResult result.0 (λ _. PrintsSingle D.Disk config.now phase.now state lines.new.items (down state)) (λ why. HaltsRun D.Disk config.now why phase.now state bay lines.new.items result.1) }
     ensures keeps { AreLater D.Disk bay result.1 }
     ensures others { SameOthers config.now bay result.1 }
     ensures cause { (device : ℕ) → result.0 ≡ Err (Stop.Failed device) → HasFailed D.faults config.now bay result.1 device }

@@ -47,38 +47,38 @@ returns-in-Lose-clause-keeps g c = leaves-later g.D.Disk c.args.config.now _ c.a
 pub returns-in-Format-clause-prints : goal.returns-in-Format-clause-prints
 returns-in-Format-clause-prints g c =
     let P : Action → List Line → Type 0 = λ a lines. Prints g.D.Disk c.args.config.now a c.args.state.now c.args.bay lines c.act_format-made.new.state c.act_format-made.new.bay in
-    kept-prints g.D.Disk c.args.config.now (λ v. v.items) c.keep_lines.new.lines.items c.args.lines.now.items (P c.args.action.now) (λ why lines. Halts g.D.Disk c.args.config.now why c.args.action.now c.args.state.now lines) c.act_format-made.result c.keep_lines.result c.keep_lines.ensures c.requires.none
-    (none-halts g.D.Disk c.args.config.now c.args.action.now c.args.state.now c.keep_lines.new.lines.items) c.act_format-made.ensures.memory
+    kept-prints g.D.Disk c.args.config.now (λ v. v.items) c.keep_lines.new.lines.items c.args.lines.now.items (P c.args.action.now) (λ why lines. Halts g.D.Disk c.args.config.now why c.args.action.now c.args.state.now c.args.bay lines c.act_format-made.new.bay) c.act_format-made.result c.keep_lines.result c.keep_lines.ensures c.requires.none
+    (none-halts g.D.Disk c.args.config.now c.args.action.now c.args.state.now c.args.bay c.keep_lines.new.lines.items c.act_format-made.new.bay) c.act_format-made.ensures.memory
     (subst (λ a. IfOk c.act_format-made.result (λ v. P a v.items)) (sym c.in-Format.is) c.act_format-made.ensures.prints)
 
 pub returns-in-Recover-clause-prints : goal.returns-in-Recover-clause-prints
 returns-in-Recover-clause-prints g c =
     let P : Action → List Line → Type 0 = λ a lines. Prints g.D.Disk c.args.config.now a c.args.state.now c.args.bay lines c.act_recover-made.new.state c.act_recover-made.new.bay in
-    kept-prints g.D.Disk c.args.config.now (λ v. v.items) c.keep_lines-in-Recover.new.lines.items c.args.lines.now.items (P c.args.action.now) (λ why lines. Halts g.D.Disk c.args.config.now why c.args.action.now c.args.state.now lines) c.act_recover-made.result c.keep_lines-in-Recover.result c.keep_lines-in-Recover.ensures c.requires.none
-    (none-halts g.D.Disk c.args.config.now c.args.action.now c.args.state.now c.keep_lines-in-Recover.new.lines.items) c.act_recover-made.ensures.memory
+    kept-prints g.D.Disk c.args.config.now (λ v. v.items) c.keep_lines-in-Recover.new.lines.items c.args.lines.now.items (P c.args.action.now) (λ why lines. Halts g.D.Disk c.args.config.now why c.args.action.now c.args.state.now c.args.bay lines c.act_recover-made.new.bay) c.act_recover-made.result c.keep_lines-in-Recover.result c.keep_lines-in-Recover.ensures c.requires.none
+    (none-halts g.D.Disk c.args.config.now c.args.action.now c.args.state.now c.args.bay c.keep_lines-in-Recover.new.lines.items c.act_recover-made.new.bay) c.act_recover-made.ensures.memory
     (subst (λ a. IfOk c.act_recover-made.result (λ v. P a v.items)) (sym c.in-Recover.is) c.act_recover-made.ensures.prints)
 
 pub returns-in-List-clause-prints : goal.returns-in-List-clause-prints
 returns-in-List-clause-prints g c =
     let P : Action → List Line → Type 0 = λ a lines. Prints g.D.Disk c.args.config.now a c.args.state.now c.args.bay lines c.args.state.now c.act_list-made.new.bay in
-    kept-prints g.D.Disk c.args.config.now (λ v. v.items) c.keep_lines-in-List.new.lines.items c.args.lines.now.items (P c.args.action.now) (λ why lines. Halts g.D.Disk c.args.config.now why c.args.action.now c.args.state.now lines) c.act_list-made.result c.keep_lines-in-List.result c.keep_lines-in-List.ensures c.requires.none
-    (none-halts g.D.Disk c.args.config.now c.args.action.now c.args.state.now c.keep_lines-in-List.new.lines.items) c.act_list-made.ensures.memory
+    kept-prints g.D.Disk c.args.config.now (λ v. v.items) c.keep_lines-in-List.new.lines.items c.args.lines.now.items (P c.args.action.now) (λ why lines. Halts g.D.Disk c.args.config.now why c.args.action.now c.args.state.now c.args.bay lines c.act_list-made.new.bay) c.act_list-made.result c.keep_lines-in-List.result c.keep_lines-in-List.ensures c.requires.none
+    (none-halts g.D.Disk c.args.config.now c.args.action.now c.args.state.now c.args.bay c.keep_lines-in-List.new.lines.items c.act_list-made.new.bay) c.act_list-made.ensures.memory
     (subst (λ a. IfOk c.act_list-made.result (λ v. P a v.items)) (sym c.in-List.is) c.act_list-made.ensures.prints)
 
 pub returns-in-Lose-clause-prints : goal.returns-in-Lose-clause-prints
 returns-in-Lose-clause-prints g c =
     let P : Action → List Line → Type 0 = λ a lines. Prints g.D.Disk c.args.config.now a c.args.state.now c.args.bay lines c.act_lose-made.new.state c.act_lose-made.new.bay in
-    kept-prints g.D.Disk c.args.config.now (λ v. v.items) c.keep_lines-in-Lose.new.lines.items c.args.lines.now.items (P c.args.action.now) (λ why lines. Halts g.D.Disk c.args.config.now why c.args.action.now c.args.state.now lines) c.act_lose-made.result c.keep_lines-in-Lose.result c.keep_lines-in-Lose.ensures c.requires.none
-    (none-halts g.D.Disk c.args.config.now c.args.action.now c.args.state.now c.keep_lines-in-Lose.new.lines.items) c.act_lose-made.ensures.memory
+    kept-prints g.D.Disk c.args.config.now (λ v. v.items) c.keep_lines-in-Lose.new.lines.items c.args.lines.now.items (P c.args.action.now) (λ why lines. Halts g.D.Disk c.args.config.now why c.args.action.now c.args.state.now c.args.bay lines c.act_lose-made.new.bay) c.act_lose-made.result c.keep_lines-in-Lose.result c.keep_lines-in-Lose.ensures c.requires.none
+    (none-halts g.D.Disk c.args.config.now c.args.action.now c.args.state.now c.args.bay c.keep_lines-in-Lose.new.lines.items c.act_lose-made.new.bay) c.act_lose-made.ensures.memory
     (subst (λ a. IfOk c.act_lose-made.result (λ v. P a v.items)) (sym c.in-Lose.is) c.act_lose-made.ensures.prints)
 
 pub returns-in-Rollforward-clause-prints : goal.returns-in-Rollforward-clause-prints
 returns-in-Rollforward-clause-prints g c =
     let P : Action → List Line → Type 0 = λ a lines. Prints g.D.Disk c.args.config.now a c.args.state.now c.args.bay lines c.act_rollforward-made.new.state c.act_rollforward-made.new.bay in
-    kept-prints g.D.Disk c.args.config.now (λ v. v.items) c.keep_lines-in-Rollforward.new.lines.items c.args.lines.now.items (P c.args.action.now) (λ why lines. Halts g.D.Disk c.args.config.now why c.args.action.now c.args.state.now lines) c.act_rollforward-made.result c.keep_lines-in-Rollforward.result c.keep_lines-in-Rollforward.ensures c.requires.none
-    (none-halts g.D.Disk c.args.config.now c.args.action.now c.args.state.now c.keep_lines-in-Rollforward.new.lines.items) c.act_rollforward-made.ensures.memory
+    kept-prints g.D.Disk c.args.config.now (λ v. v.items) c.keep_lines-in-Rollforward.new.lines.items c.args.lines.now.items (P c.args.action.now) (λ why lines. Halts g.D.Disk c.args.config.now why c.args.action.now c.args.state.now c.args.bay lines c.act_rollforward-made.new.bay) c.act_rollforward-made.result c.keep_lines-in-Rollforward.result c.keep_lines-in-Rollforward.ensures c.requires.none
+    (none-halts g.D.Disk c.args.config.now c.args.action.now c.args.state.now c.args.bay c.keep_lines-in-Rollforward.new.lines.items c.act_rollforward-made.new.bay) c.act_rollforward-made.ensures.memory
     (subst (λ a. IfOk c.act_rollforward-made.result (λ v. P a v.items)) (sym c.in-Rollforward.is) c.act_rollforward-made.ensures.prints)
 
 pub returns-in-Run-clause-prints : goal.returns-in-Run-clause-prints
 returns-in-Run-clause-prints g c =
-    subst (λ a. MatchResult c.act_run.result.0 (λ _. Prints g.D.Disk c.args.config.now a c.args.state.now c.args.bay c.act_run.new.lines.items c.act_run.new.state c.act_run.result.1) (λ why. Halts g.D.Disk c.args.config.now why a c.args.state.now c.act_run.new.lines.items)) (sym c.in-Run.is) c.act_run.ensures.prints
+    subst (λ a. MatchResult c.act_run.result.0 (λ _. Prints g.D.Disk c.args.config.now a c.args.state.now c.args.bay c.act_run.new.lines.items c.act_run.new.state c.act_run.result.1) (λ why. Halts g.D.Disk c.args.config.now why a c.args.state.now c.args.bay c.act_run.new.lines.items c.act_run.result.1)) (sym c.in-Run.is) c.act_run.ensures.prints

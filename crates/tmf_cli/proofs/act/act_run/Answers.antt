@@ -81,7 +81,7 @@ pub returns-in_default-clause-prints : goal.returns-in_default-clause-prints
 returns-in_default-clause-prints g c =
     let down_is : up_for c.args.config.now c.args.phase.now c.args.state.now ≡ None = sym c.up_for.ensures ∙ search rules in
     let P : List Line → Type 0 = λ lines. Prints g.D.Disk c.args.config.now (RunAction c.args.phase.now) c.args.state.now c.args.bay lines c.args.state.now c.args.bay in
-    kept-prints g.D.Disk c.args.config.now (λ v. v.items) c.keep_lines-ran.new.lines.items c.args.lines.now.items P (λ why. HaltsRun g.D.Disk c.args.config.now why c.args.phase.now c.args.state.now) c.one_line.result c.keep_lines-ran.result c.keep_lines-ran.ensures c.requires.none
+    kept-prints g.D.Disk c.args.config.now (λ v. v.items) c.keep_lines-ran.new.lines.items c.args.lines.now.items P (λ why lines. HaltsRun g.D.Disk c.args.config.now why c.args.phase.now c.args.state.now c.args.bay lines c.args.bay) c.one_line.result c.keep_lines-ran.result c.keep_lines-ran.ensures c.requires.none
     (λ why memory none. inl (memory, none)) (refusal-of c.one_line.result _ _ c.one_line.ensures)
     (if-ok (λ lines. lines.items ≡ NotUp asked.Run ∷ []) (λ lines. P lines.items) (λ stop. stop ≡ NoMemory) (λ stop. Unit {0}) c.one_line.result c.one_line.ensures (λ lines is. inl (down_is, (is, refl, refl))))
 
@@ -91,9 +91,9 @@ returns-then-is_single-clause-prints g c =
     let single : IsSingle c.args.config.now c.args.phase.now = c.is_single.ensures.0 c.if-is_single.true in
     let lines = c.act_single.new.lines.items in
     let new = c.act_single.result.1 in
-    subst (λ (s : NodeState). MatchResult c.act_single.result.0 (λ _. Prints g.D.Disk c.args.config.now (RunAction c.args.phase.now) c.args.state.now c.args.bay lines s new) (λ why. HaltsRun g.D.Disk c.args.config.now why c.args.phase.now c.args.state.now lines)) (sym c.down.ensures)
+    subst (λ (s : NodeState). MatchResult c.act_single.result.0 (λ _. Prints g.D.Disk c.args.config.now (RunAction c.args.phase.now) c.args.state.now c.args.bay lines s new) (λ why. HaltsRun g.D.Disk c.args.config.now why c.args.phase.now c.args.state.now c.args.bay lines new)) (sym c.down.ensures)
     (match-map c.act_single.result.0 (λ _. PrintsSingle g.D.Disk c.args.config.now c.args.phase.now c.args.state.now lines (down c.args.state.now)) (λ _. Prints g.D.Disk c.args.config.now (RunAction c.args.phase.now) c.args.state.now c.args.bay lines (down c.args.state.now) new)
-    (λ why. HaltsRun g.D.Disk c.args.config.now why c.args.phase.now c.args.state.now lines) (λ why. HaltsRun g.D.Disk c.args.config.now why c.args.phase.now c.args.state.now lines) (λ _ p. inr (inl (single, p))) (λ _ h. h) (c.act_single.ensures.prints c.args.state.now may))
+    (λ why. HaltsRun g.D.Disk c.args.config.now why c.args.phase.now c.args.state.now c.args.bay lines new) (λ why. HaltsRun g.D.Disk c.args.config.now why c.args.phase.now c.args.state.now c.args.bay lines new) (λ _ p. inr (inl (single, p))) (λ _ h. h) (c.act_single.ensures.prints c.args.state.now may))
 
 pub returns-clause-prints : goal.returns-clause-prints
 returns-clause-prints g c =
@@ -102,7 +102,7 @@ returns-clause-prints g c =
     let new = c.act_threads-made.result.1 in
     let state = c.args.state.now in
     let P : List Line → NodeState → Type 0 = λ lines s. Prints g.D.Disk c.args.config.now (RunAction c.args.phase.now) state c.args.bay lines s new in
-    kept-prints g.D.Disk c.args.config.now (λ v. v.items) c.keep_lines.new.lines.items c.args.lines.now.items (λ lines. P lines c.down.result) (λ why. HaltsRun g.D.Disk c.args.config.now why c.args.phase.now c.args.state.now) c.act_threads-made.result.0 c.keep_lines.result c.keep_lines.ensures c.requires.none
+    kept-prints g.D.Disk c.args.config.now (λ v. v.items) c.keep_lines.new.lines.items c.args.lines.now.items (λ lines. P lines c.down.result) (λ why lines. HaltsRun g.D.Disk c.args.config.now why c.args.phase.now c.args.state.now c.args.bay lines new) c.act_threads-made.result.0 c.keep_lines.result c.keep_lines.ensures c.requires.none
     (λ why memory none. inl (memory, none)) c.act_threads-made.ensures.memory
     (subst (λ s. IfOk c.act_threads-made.result.0 (λ v. P v.items s)) (sym c.down.ensures)
     (ok-map c.act_threads-made.result.0 (λ v. PrintsRun g.D.Disk c.args.config.now c.args.phase.now state c.args.bay v.items (down state) new ⊎ PrintsNoRun g.D.Disk c.args.config.now c.args.phase.now state c.args.bay v.items (down state) new) (λ v. P v.items (down state))

@@ -16,13 +16,13 @@ returns-in-Err-clause-ended g c = λ candidates tell knows.
 pub returns-in-Err-clause-prints : goal.returns-in-Err-clause-prints
 returns-in-Err-clause-prints g c = record {
   lines = c.act-acted.new.lines.items;
-  ends = (subst (λ r. MatchResult r (λ _. Prints g.D.Disk c.args.config.now c.args.action.now c.args.state.now c.args.bay c.act-acted.new.lines.items c.act-acted.new.state c.act-acted.result.1) (λ why. Halts g.D.Disk c.args.config.now why c.args.action.now c.args.state.now c.act-acted.new.lines.items)) c.in-Err.is c.act-acted.ensures.prints, λ device e. c.act-acted.ensures.cause device (c.in-Err.is ∙ ap Err e));
+  ends = (subst (λ r. MatchResult r (λ _. Prints g.D.Disk c.args.config.now c.args.action.now c.args.state.now c.args.bay c.act-acted.new.lines.items c.act-acted.new.state c.act-acted.result.1) (λ why. Halts g.D.Disk c.args.config.now why c.args.action.now c.args.state.now c.args.bay c.act-acted.new.lines.items c.act-acted.result.1)) c.in-Err.is c.act-acted.ensures.prints, λ device e. c.act-acted.ensures.cause device (c.in-Err.is ∙ ap Err e));
   given = λ no. absurd no;
 }
 
 pub returns-in-Ok-clause-prints : goal.returns-in-Ok-clause-prints
 returns-in-Ok-clause-prints g c = record {
   lines = c.act-acted.new.lines.items;
-  prints = subst (λ r. MatchResult r (λ _. Prints g.D.Disk c.args.config.now c.args.action.now c.args.state.now c.args.bay c.act-acted.new.lines.items c.act-acted.new.state c.act-acted.result.1) (λ why. Halts g.D.Disk c.args.config.now why c.args.action.now c.args.state.now c.act-acted.new.lines.items)) c.in_default.is c.act-acted.ensures.prints;
+  prints = subst (λ r. MatchResult r (λ _. Prints g.D.Disk c.args.config.now c.args.action.now c.args.state.now c.args.bay c.act-acted.new.lines.items c.act-acted.new.state c.act-acted.result.1) (λ why. Halts g.D.Disk c.args.config.now why c.args.action.now c.args.state.now c.args.bay c.act-acted.new.lines.items c.act-acted.result.1)) c.in_default.is c.act-acted.ensures.prints;
   behind = search rules;
 }

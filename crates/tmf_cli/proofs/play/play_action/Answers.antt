@@ -38,6 +38,6 @@ returns-in-Err-clause-prints g c = record {
 pub returns-clause-prints : goal.returns-clause-prints
 returns-clause-prints g c = record {
   lines = c.act-acted.new.lines.items;
-  ends = (subst (λ r. MatchResult r (λ _. Prints g.D.Disk c.args.config.now c.args.action.now c.args.state.now c.args.bay c.act-acted.new.lines.items c.act-acted.new.state c.act-acted.result.1) (λ why. Halts g.D.Disk c.args.config.now why c.args.action.now c.args.state.now c.act-acted.new.lines.items)) c.in-Err-acted.is c.act-acted.ensures.prints, λ device e. c.act-acted.ensures.cause device (c.in-Err-acted.is ∙ ap Err e));
+  ends = (subst (λ r. MatchResult r (λ _. Prints g.D.Disk c.args.config.now c.args.action.now c.args.state.now c.args.bay c.act-acted.new.lines.items c.act-acted.new.state c.act-acted.result.1) (λ why. Halts g.D.Disk c.args.config.now why c.args.action.now c.args.state.now c.args.bay c.act-acted.new.lines.items c.act-acted.result.1)) c.in-Err-acted.is c.act-acted.ensures.prints, λ device e. c.act-acted.ensures.cause device (c.in-Err-acted.is ∙ ap Err e));
   given = λ ts. c.in_default.ensures.told ts ∙ ap (λ ls. g.K.Sink.given c.args.sink.now ++ lines_text ls) c.deref.ensures.value;
 }

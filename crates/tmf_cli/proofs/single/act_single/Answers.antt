@@ -12,8 +12,7 @@ use Rattle.std.specs.Prelude.{OnOk}
 use Rattle.tmf_model.specs.RecordMap.{RecordMap}
 use Rattle.tmf_model.specs.declared.script.Item.{Item}
 use Rattle.one_worker.specs.RunLaw.{AreAddedOn, IsTransaction}
-use Rattle.tmf_cli.proofs.AnyDevices.{refusal-map, single-prints}
-use Rattle.one_worker.specs.Stop.{IsRefusal}
+use Rattle.tmf_cli.proofs.AnyDevices.{single-prints}
 use Rattle.tmf_cli.proofs.single.act_single.Goals as goal
 
 pub run_worker-ran-requires-clause-transactions : goal.run_worker-ran-requires-clause-transactions
@@ -76,9 +75,8 @@ returns-in-Ok-clause-prints g c = λ state may.
     let done = c.run_worker-ran.new.outcomes.items in
     let on = subst (λ (items : List Item). (map : RecordMap) × AreAddedOn c.args.config.now c.args.up.epoch c.args.up.place items map before done) c.items_of-items.ensures ran.outcomes in
     let all = subst (λ (items : List Item). OnOk c.run_worker-ran.result.0 (length done ≡ length before + length items)) c.items_of-items.ensures ran.added.1 in
-    single-prints g.D.Disk c.args.config.now c.args.phase.now state c.args.up may c.requires.single before done c.new-outcomes.ensures.items c.in-Ok.made.items on.0 on.1 (c.in-Ok.ensures ∙ ap (outcome_lines c.args.config.now) c.deref.ensures.value)
-    c.run_worker-ran.result.0 c.end_of_run-ran.result c.end_of_run-ran.ensures all (refusal-map c.run_worker-ran.result.0 _ (λ error. IsRefusal error → done ≡ before) (λ error so refusal. (so refusal).1) ran.idle.refused)
-    (λ device e of. (ran.idle.unread device e of).1)
+    single-prints g.D.Disk c.args.config.now c.args.phase.now state c.args.up may c.requires.single before done c.new-outcomes.ensures.items c.args.bay c.run_worker-ran.result.1 c.in-Ok.made.items on.0 on.1 (c.in-Ok.ensures ∙ ap (outcome_lines c.args.config.now) c.deref.ensures.value)
+    c.run_worker-ran.result.0 c.end_of_run-ran.result c.end_of_run-ran.ensures all ran.idle.refused ran.idle.unread
 
 pub returns-clause-prints : goal.returns-clause-prints
 returns-clause-prints g c = λ state may. inl (refl, c.requires.none)
