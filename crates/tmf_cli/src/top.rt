@@ -272,7 +272,8 @@ pub fn tmf<R: Threads + Wait + Sync, S: Source, K: Sink, D: Disk + Send>(
     ensures prints { (script : Script) → is_run (map string_bytes words.now) ≡ true → IsScriptOf script (take read_limit (S.rest source.old)) → IsTrue (S.tells source.old)
         → OnceSwitched (λ opened. PrintsBy D.Disk script.config script.actions result.0 opened result.1 (IsTrue (K.tells sink.old)) (K.given sink.old) (K.given sink.new)) bay }
 
-    // So also where the source does not tell its text, as standard input: where actions were carried out, they are those of some valid script.
+    // So also where the source does not tell its text, as standard input: with status 0, 4 or 6 the actions are those of some valid script. Of status 2, with which actions may have been carried
+    // out too, this says nothing.
     ensures prints_some { is_run (map string_bytes words.now) ≡ true → IsPlayed result.0 → PrintsOfSome D.Disk result.0 bay result.1 (IsTrue (S.tells source.old)) (take read_limit (S.rest source.old)) (IsTrue (K.tells sink.old)) (K.given sink.old) (K.given sink.new) }
 
     // Of a script that formats first, and whose runs are single, where no device fails and the status is 0, the output is the one that the script determines, whatever devices were handed in.
