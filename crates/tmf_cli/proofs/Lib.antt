@@ -3,6 +3,7 @@ pub mod AnyDevices
 pub mod Banks
 pub mod BankWords
 pub mod Bays
+pub mod Calls
 pub mod Countdowns
 pub mod CountedLines
 pub mod Counting

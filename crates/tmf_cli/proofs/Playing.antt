@@ -29,7 +29,7 @@ use Rattle.tmf_cli.proofs.Bays.{each-old}
 use Rattle.tmf_lines.proofs.LineTexts.{lines_text-more}
 
 -- a count that rose later has risen
-rose-sink : (before sink sink_now : ℕ) → before ≤ sink → sink ≤ sink_now → Rose sink sink_now → Rose before sink_now
+pub rose-sink : (before sink sink_now : ℕ) → before ≤ sink → sink ≤ sink_now → Rose sink sink_now → Rose before sink_now
 rose-sink before sink sink_now le more rose small = ⊎_elim (λ most. omega (arith, le, more, most.1, small)) (λ less. omega (arith, le, more, rose less.1)) (leb_tells (2 ^ 64 - 1) sink)
 
 module _ {D : Type 0} (held : D → Held) (faults : D → ℕ) (config : Config) where

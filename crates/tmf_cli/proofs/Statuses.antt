@@ -24,15 +24,6 @@ code-usage status.SinkFailed e = absurd (cc)
 code-usage status.Refused e = absurd (cc)
 code-usage status.Stopped e = absurd (cc)
 
-pub code-memory : (s : Status) → code_of s ≡ 2 → s ≡ status.NoMemory
-code-memory status.Done e = absurd (cc)
-code-memory status.Usage e = absurd (cc)
-code-memory status.NoMemory e = refl
-code-memory status.SourceFailed e = absurd (cc)
-code-memory status.SinkFailed e = absurd (cc)
-code-memory status.Refused e = absurd (cc)
-code-memory status.Stopped e = absurd (cc)
-
 pub code-source : (s : Status) → code_of s ≡ 3 → s ≡ status.SourceFailed
 code-source status.Done e = absurd (cc)
 code-source status.Usage e = absurd (cc)
@@ -103,12 +94,6 @@ pub played-from : (s : Status) → IsPlayed (code_of s) → (s ≡ status.Done) 
 played-from s (inl e) = inl (code-done s e)
 played-from s (inr (inl e)) = inr (inl (code-sink s e))
 played-from s (inr (inr e)) = inr (inr (code-stopped s e))
-
-pub read-from : (s : Status) → IsRead (code_of s) → (s ≡ status.Done) ⊎ (s ≡ status.SinkFailed) ⊎ (s ≡ status.Stopped) ⊎ (s ≡ status.Refused)
-read-from s (inl (inl e)) = inl (code-done s e)
-read-from s (inl (inr (inl e))) = inr (inl (code-sink s e))
-read-from s (inl (inr (inr e))) = inr (inr (inl (code-stopped s e)))
-read-from s (inr e) = inr (inr (inr (code-refused s e)))
 
 -- a call that did not read its script has neither number
 pub none-read : (s : Status) → (s ≡ status.Usage) ⊎ (s ≡ status.NoMemory) → IsRead (code_of s) → ⊥

@@ -13,6 +13,7 @@ pub mod Lost
 pub mod OneOutput
 pub mod Outcomes
 pub mod OutputLaw
+pub mod ReadScript
 pub mod Rolling
 pub mod RunLines
 pub mod SameDevice

@@ -1,17 +1,16 @@
 //! The top call: all that the program does.
-ghost use Rattle.std.specs.Prelude.{◌≡◌, ◌≢◌, ◌⊎◌, ◌≤◌, ◌++◌, ◌∷◌, [], ℕ, List, Option, Some, None, length, map, take, drop, true, false, string_bytes, IsTrue, IfOk, IfErr, IfSome};
-ghost use Rattle.disk_model.specs.Held.{Rose};
+ghost use Rattle.std.specs.Prelude.{◌≡◌, ◌≢◌, ◌⊎◌, ◌≤◌, ◌++◌, ◌∷◌, [], ℕ, List, Option, Some, None, length, map, take, true, false, string_bytes, IsTrue, IfSome, MatchResult};
 ghost use Rattle.run_outcomes.specs.Devices.{devices};
-ghost use Rattle.tmf_edges.specs.Moves.{AppendsPart, DropsPart};
+ghost use Rattle.tmf_edges.specs.Moves.{AppendsPart};
 ghost use Rattle.tmf_model.specs.Script.{IsValidScript};
 ghost use Rattle.tmf_model.specs.declared.script.Script.{Script};
 ghost use Rattle.tmf_cli.specs.declared.status.Status.{Status};
 ghost use Rattle.tmf_cli.specs.ActionGiven.{KeepsSink};
 ghost use Rattle.tmf_cli.specs.AnyDevices.{PrintsBy, PrintsOfSome};
 ghost use Rattle.tmf_cli.specs.Bank.{AnswersBank};
-ghost use Rattle.tmf_cli.specs.BetweenActions.{LeavesBay, OthersRestarted};
+ghost use Rattle.tmf_cli.specs.BetweenActions.{LeavesBay};
 ghost use Rattle.tmf_cli.specs.Call.{AnswersText, AnswersUsage, HasStatus, KeepsBay, KeepsOn};
-ghost use Rattle.tmf_cli.specs.Countdown.{IsOff, NoneCut, NoneKilled, OnceSwitched};
+ghost use Rattle.tmf_cli.specs.Countdown.{NoneKilled, OnceSwitched};
 ghost use Rattle.tmf_cli.specs.Counts.{CountsFailures};
 ghost use Rattle.tmf_cli.specs.Faultless.{IsFaultlessOutput, IsKnown};
 ghost use Rattle.tmf_cli.specs.Headline.{KeepsEveryCommit};
@@ -21,9 +20,10 @@ ghost use Rattle.tmf_cli.specs.Status.{code_of};
 ghost use Rattle.tmf_lines.specs.Script.{IsRefusalOf, IsScriptOf};
 ghost use Rattle.tmf_cli.specs.OneOutput.{FormatsFirst, IsTheOutput, NoneRose};
 ghost use Rattle.tmf_cli.specs.OutputLaw.{HasFailed, Candidate};
-ghost use Rattle.tmf_cli.specs.Top.{IsPlayed, read_limit, stop_lines, IsStatusCaused, IsUnreadCaused, IsGiven, EndsStopped, SaysWhy, TellsRefusal, IsScript, Opens, Tells, TellsBy};
+ghost use Rattle.tmf_cli.specs.ReadScript.{KeepsSource, ReadsNone, ReadsScript};
+ghost use Rattle.tmf_cli.specs.Top.{IsPlayed, read_limit, stop_lines, IsStatusCaused, IsGiven, EndsStopped, SaysWhy, TellsRefusal, Opens, Tells, TellsBy};
 ghost use Rattle.tmf_words.specs.Words.{are_accepted, bank_of, is_run};
-ghost use Rattle.disk_model.specs.Devices.{DevicesTell, FuseRestarts};
+ghost use Rattle.disk_model.specs.Devices.{DevicesTell};
 
 use crate::bank::run_bank;
 use crate::means::Means;
@@ -149,23 +149,9 @@ fn script_from<S: Source, K: Sink>(
     source: &mut S,
     sink: &mut K,
 ) -> Result<Script, Status>
-    ensures valid { IfOk result IsValidScript }
-    ensures script { IsTrue (S.tells source.old) → IfOk result (λ script. IsScriptOf script (take read_limit (S.rest source.old))) }
-    ensures silent { IsTrue (K.tells sink.old) → IfErr result (λ status. (status ≡ Status.SourceFailed) ⊎ (status ≡ Status.NoMemory) → K.given sink.new ≡ K.given sink.old) }
-    ensures only { IsTrue (S.tells source.old) → (script : Script) → IsScriptOf script (take read_limit (S.rest source.old)) → IfOk result (λ read. read ≡ script) }
-    ensures unrefused { IsTrue (S.tells source.old) → (script : Script) → IsScriptOf script (take read_limit (S.rest source.old)) → IfErr result (λ status. status ≢ Status.Refused) }
-    ensures same { IsTrue (K.tells sink.old) → IfOk result (λ script. K.given sink.new ≡ K.given sink.old) }
-    ensures quiet { IsTrue (S.tells source.old) → IsTrue (K.tells sink.old) → (script : Script) → IsScriptOf script (take read_limit (S.rest source.old)) → K.given sink.new ≡ K.given sink.old }
-    ensures taken { IsTrue (S.tells source.old) → DropsPart read_limit (S.rest source.old) (S.rest source.new) }
-    ensures read { IsTrue (S.tells source.old) → IfOk result (λ script. S.rest source.new ≡ drop read_limit (S.rest source.old)) }
-    ensures read_err { IsTrue (S.tells source.old) → IfErr result (λ status. status ≡ Status.Refused → S.rest source.new ≡ drop read_limit (S.rest source.old)) }
-    ensures source_tells { S.tells source.new ≡ S.tells source.old }
-    ensures source_later { S.faults source.old ≤ S.faults source.new }
-    ensures cause { IfErr result (λ status. IsUnreadCaused status (S.faults source.old) (S.faults source.new)) }
-    ensures refused { IsTrue (S.tells source.old) → IsTrue (K.tells sink.old)
-        → IfErr result (λ status. status ≡ Status.Refused → TellsRefusal (take read_limit (S.rest source.old)) (K.given sink.old) (K.given sink.new) (K.faults sink.old) (K.faults sink.new)) }
-    ensures tells { K.tells sink.new ≡ K.tells sink.old }
-    ensures later { K.faults sink.old ≤ K.faults sink.new }
+    ensures read { MatchResult result (λ script. ReadsScript S.Source K.Sink script source.old source.new sink.old sink.new) (λ status. ReadsNone S.Source K.Sink status source.old source.new sink.old sink.new) }
+    ensures keeps_source { KeepsSource S.Source source.old source.new }
+    ensures keeps_sink { KeepsSink K.Sink sink.old sink.new }
 {
     let text = match read_to_limit(alloc, source, READ_LIMIT) {
         Ok(text) => text,
@@ -189,36 +175,11 @@ fn run_script<R: Threads + Wait + Sync, S: Source, K: Sink, D: Disk + Send>(
         → Opens D.held script bay candidates → OnceSwitched (λ opened. Tells D.held D.faults script candidates result.0 opened result.1 (IsTrue (K.tells sink.old)) (K.given sink.old) (K.given sink.new)) bay }
     ensures prints { (script : Script) → IsScriptOf script (take read_limit (S.rest source.old)) → IsTrue (S.tells source.old)
         → OnceSwitched (λ opened. PrintsBy D.Disk script.config script.actions (code_of result.0) opened result.1 (IsTrue (K.tells sink.old)) (K.given sink.old) (K.given sink.new)) bay }
-    ensures prints_some { (result.0 ≡ Status.Done) ⊎ (result.0 ≡ Status.SinkFailed) ⊎ (result.0 ≡ Status.Stopped) → PrintsOfSome D.Disk (code_of result.0) bay result.1 (IsTrue (S.tells source.old)) (take read_limit (S.rest source.old)) (IsTrue (K.tells sink.old)) (K.given sink.old) (K.given sink.new) }
-    ensures stopped { (script : Script) → IsScriptOf script (take read_limit (S.rest source.old)) → IsTrue (S.tells source.old) → DevicesTell D.tells bay
-        → result.0 ≡ Status.Stopped → (device : ℕ) × HasFailed D.faults script.config bay result.1 device }
-    ensures unrefused { (script : Script) → IsScriptOf script (take read_limit (S.rest source.old)) → IsTrue (S.tells source.old) → result.0 ≢ Status.Refused }
-    ensures source_failed { result.0 ≡ Status.SourceFailed → Rose (S.faults source.old) (S.faults source.new) }
-    ensures sink_failed { result.0 ≡ Status.SinkFailed → Rose (K.faults sink.old) (K.faults sink.new) }
-    ensures refused { IsTrue (S.tells source.old) → IsTrue (K.tells sink.old) → result.0 ≡ Status.Refused
-        → TellsRefusal (take read_limit (S.rest source.old)) (K.given sink.old) (K.given sink.new) (K.faults sink.old) (K.faults sink.new) }
-    ensures ends { (script : Script) → IsScriptOf script (take read_limit (S.rest source.old)) → IsTrue (S.tells source.old) → IsTrue (K.tells sink.old)
-        → result.0 ≡ Status.Stopped → EndsStopped script.config (HasFailed D.faults script.config bay result.1) (K.given sink.old) (K.given sink.new) }
-    ensures silent { IsTrue (K.tells sink.old) → result.0 ≡ Status.SourceFailed → K.given sink.new ≡ K.given sink.old }
-    ensures silent_unread { IsTrue (S.tells source.old) → IsTrue (K.tells sink.old) → ¬ IsScript (take read_limit (S.rest source.old)) → result.0 ≡ Status.NoMemory → K.given sink.new ≡ K.given sink.old }
-    ensures script { IsTrue (S.tells source.old) → (result.0 ≡ Status.Done) ⊎ (result.0 ≡ Status.SinkFailed) ⊎ (result.0 ≡ Status.Stopped) → IsScript (take read_limit (S.rest source.old)) }
-    ensures taken { IsTrue (S.tells source.old) → DropsPart read_limit (S.rest source.old) (S.rest source.new) }
-    ensures read { IsTrue (S.tells source.old) → (result.0 ≡ Status.Done) ⊎ (result.0 ≡ Status.SinkFailed) ⊎ (result.0 ≡ Status.Stopped) ⊎ (result.0 ≡ Status.Refused)
-        → S.rest source.new ≡ drop read_limit (S.rest source.old) }
-    ensures source_tells { S.tells source.new ≡ S.tells source.old }
-    ensures source_later { S.faults source.old ≤ S.faults source.new }
-    ensures sink_tells { K.tells sink.new ≡ K.tells sink.old }
-    ensures sink_later { K.faults sink.old ≤ K.faults sink.new }
-    ensures others { (script : Script) → IsScriptOf script (take read_limit (S.rest source.old)) → IsTrue (S.tells source.old)
-        → OnceSwitched (λ opened. OthersRestarted script.config (FuseRestarts D.Disk) opened result.1) bay }
-    ensures uncut { (script : Script) → IsScriptOf script (take read_limit (S.rest source.old)) → IsTrue (S.tells source.old) → NoneKilled script.actions → NoneCut bay result.1 }
-    ensures off { (result.1 ≡ bay) ⊎ IsOff result.1 }
-    ensures played_off { (result.0 ≡ Status.Done) ⊎ (result.0 ≡ Status.SinkFailed) ⊎ (result.0 ≡ Status.Stopped) → IsOff result.1 }
-    ensures untouched { (result.0 ≡ Status.SourceFailed) ⊎ (result.0 ≡ Status.Refused) → result.1 ≡ bay }
-    ensures unread { IsTrue (S.tells source.old) → ¬ IsScript (take read_limit (S.rest source.old)) → result.1 ≡ bay }
-    ensures keeps { KeepsBay D.Disk bay result.1 }
+    ensures prints_some { IsPlayed (code_of result.0) → PrintsOfSome D.Disk (code_of result.0) bay result.1 (IsTrue (S.tells source.old)) (take read_limit (S.rest source.old)) (IsTrue (K.tells sink.old)) (K.given sink.old) (K.given sink.new) }
+    ensures text { IsTrue (S.tells source.old) → AnswersText S.Source K.Sink D.Disk true (code_of result.0) source.old source.new sink.old sink.new bay result.1 }
+    ensures status { HasStatus S.Source K.Sink true (code_of result.0) source.old source.new sink.old sink.new bay result.1 }
+    ensures keeps { KeepsOn S.Source K.Sink D.Disk (code_of result.0) source.old source.new sink.old sink.new bay result.1 }
     ensures all { result.0 ≡ Status.Done → length bay ≡ devices }
-    ensures words { result.0 ≢ Status.Usage }
 {
     match script_from(means.alloc, source, sink) {
         Ok(script) => carry_out(means, &script, sink, bay),

@@ -1,16 +1,17 @@
-use Rattle.std.specs.Prelude.{None, Some, map, string_bytes, take}
-use Rattle.std.proofs.Common.{rules, ◌≡◌, ◌≤◌, ℕ, IsTrue, false, refl, sym, ap, subst, ◌∙◌, inl, inr, ⊎_elim, arith}
+use Rattle.std.specs.Prelude.{None, Some, map, string_bytes, take, true}
+use Rattle.std.proofs.Common.{rules, ◌≡◌, IsTrue, false, refl, sym, ap, subst, ◌∙◌, inl, inr, ⊎_elim, arith}
 use Rattle.disk_model.proofs.Devices.{rose-after}
 use Rattle.disk_model.specs.Devices.{FuseRestarts}
 use Rattle.tmf_words.specs.Words.{are_accepted}
 use Rattle.tmf_script.proofs.Validity.{valid_text}
 use Rattle.tmf_cli.specs.Headline.{KeepsEveryCommit}
 use Rattle.tmf_cli.specs.Bank.{AnswersBank}
+use Rattle.tmf_cli.specs.Call.{AnswersText, HasStatus, KeepsOn}
 use Rattle.tmf_cli.specs.Status.{code_of}
 use Rattle.tmf_cli.specs.declared.status.Status.TheVariants as status
 use Rattle.tmf_cli.specs.OneOutput.{IsTheOutput}
 use Rattle.tmf_cli.specs.Top.{IsPlayed, IsRead, Tells, TellsBy, read_limit}
-use Rattle.tmf_cli.proofs.Statuses.{code-done, code-memory, code-most, code-refused, code-sink, code-source, code-stopped, code-usage, memory-unread, none-failed, none-played, none-read, played-from, read-from}
+use Rattle.tmf_cli.proofs.Statuses.{code-done, memory-unread, none-read}
 use Rattle.tmf_cli.specs.Countdown.{IsSwitched}
 use Rattle.tmf_cli.specs.Counts.{CountsFailures}
 use Rattle.tmf_cli.specs.Faultless.{IsFaultlessOutput}
@@ -20,7 +21,7 @@ use Rattle.tmf_cli.proofs.CountedLines.{counts-failures}
 use Rattle.tmf_cli.proofs.Countdowns.{once-any, once-so, same-length, switched-cuts, switched-falls, switches-same}
 use Rattle.tmf_cli.proofs.FaultlessLines.{the_faultless}
 use Rattle.tmf_cli.proofs.OneOutputs.{the_output, whole-falls}
-use Rattle.tmf_cli.proofs.Openings.{none-rose, opens-switched}
+use Rattle.tmf_cli.proofs.Openings.{opens-switched}
 use Rattle.tmf_cli.proofs.Playing.{others-none}
 use Rattle.tmf_cli.proofs.Promises.{promised}
 use Rattle.tmf_cli.specs.AnyDevices.{PrintsBy, PrintsOfSome}
@@ -81,67 +82,22 @@ returns-clause-faultless g c = λ form candidates words is source sink tell open
 
 pub returns-clause-text : goal.returns-clause-text
 returns-clause-text g c = λ none source.
-    let s = c.run_script-status.result.0 in
-    let ran = c.run_script-status.ensures in
-    let code : (n : ℕ) → code_of s ≡ n → c.code-2.result ≡ n = λ n e. c.code-2.ensures ∙ e in
-    record {
-      script = λ form is. record {
-        complete = λ words tell no_source no_sink no_device.
-            ⊎_elim (λ e. inl (code 0 e)) (λ e. inr (code 2 e))
-            (none-failed s ran.words (λ e. no_source (ran.source_failed e)) (λ e. no_sink (ran.sink_failed e))
-            (ran.unrefused form is source) (λ e. let failed = ran.stopped form is source tell e in no_device failed.0 failed.1.1));
-        unrefused = λ e. ran.unrefused form is source (code-refused s (sym c.code-2.ensures ∙ e));
-        stopped = λ tell e. ran.stopped form is source tell (code-stopped s (sym c.code-2.ensures ∙ e));
-        unkilled = λ words tell no_source no_sink none fails.
-            ⊎_elim (λ e. inl (code 0 e)) (λ e. inr (code 2 e))
-            (none-failed s ran.words (λ e. no_source (ran.source_failed e)) (λ e. no_sink (ran.sink_failed e))
-            (ran.unrefused form is source)
-            (λ e. let failed = ran.stopped form is source tell e in none-rose g.D.Disk.faults c.args.bay c.run_script-status.result.1 (ran.uncut form is source none) fails failed.0 failed.1.1));
-        others = ran.others form is source;
-        uncut = ran.uncut form is source;
-        off = ran.off;
-        played_off = λ e. ran.played_off (played-from s (subst IsPlayed c.code-2.ensures e));
-        stop_line = λ sink e. ran.ends form is source sink (code-stopped s (sym c.code-2.ensures ∙ e));
-      };
-      none = λ none. record {
-        status = λ words no_source.
-            ⊎_elim (λ e. inl (code 5 e)) (λ e. inr (code 2 e))
-            (none-played s ran.words (λ e. no_source (ran.source_failed e)) (λ played. none (ran.script source played)));
-        silent = λ sink e. ran.silent_unread source sink none (code-memory s (sym c.code-2.ensures ∙ e));
-        devices = ran.unread source none;
-      };
-    }
+    let accepted : are_accepted (map string_bytes c.args.words.now) ≡ true = search rules in
+    let ran = c.run_script-status in
+    subst (λ code. AnswersText g.S.Source g.K.Sink g.D.Disk (are_accepted (map string_bytes c.args.words.now)) code c.args.source.now ran.new.source c.args.sink.now ran.new.sink c.args.bay ran.result.1) (sym c.code-2.ensures)
+    (subst (λ words. AnswersText g.S.Source g.K.Sink g.D.Disk words (code_of ran.result.0) c.args.source.now ran.new.source c.args.sink.now ran.new.sink c.args.bay ran.result.1) (sym accepted) (ran.ensures.text source))
 
 pub returns-clause-status : goal.returns-clause-status
 returns-clause-status g c = λ none.
-    let s = c.run_script-status.result.0 in
-    let ran = c.run_script-status.ensures in
-    record {
-      known = subst (λ n. n ≤ 6) (sym c.code-2.ensures) (code-most s);
-      usage = λ e. absurd (ran.words (code-usage s (sym c.code-2.ensures ∙ e)));
-      source_failed = λ e. ran.source_failed (code-source s (sym c.code-2.ensures ∙ e));
-      silent = λ sink e. ran.silent sink (code-source s (sym c.code-2.ensures ∙ e));
-      sink_failed = λ e. ran.sink_failed (code-sink s (sym c.code-2.ensures ∙ e));
-      refused = λ source sink e. ran.refused source sink (code-refused s (sym c.code-2.ensures ∙ e));
-      played = λ source e. ran.script source (played-from s (subst IsPlayed c.code-2.ensures e));
-      untouched = λ e. ⊎_elim (λ one. absurd (ran.words (code-usage s (sym c.code-2.ensures ∙ one))))
-          (λ more. ran.untouched (⊎_elim (λ three. inl (code-source s (sym c.code-2.ensures ∙ three))) (λ five. inr (code-refused s (sym c.code-2.ensures ∙ five))) more)) e;
-    }
+    let accepted : are_accepted (map string_bytes c.args.words.now) ≡ true = search rules in
+    let ran = c.run_script-status in
+    subst (λ code. HasStatus g.S.Source g.K.Sink (are_accepted (map string_bytes c.args.words.now)) code c.args.source.now ran.new.source c.args.sink.now ran.new.sink c.args.bay ran.result.1) (sym c.code-2.ensures)
+    (subst (λ words. HasStatus g.S.Source g.K.Sink words (code_of ran.result.0) c.args.source.now ran.new.source c.args.sink.now ran.new.sink c.args.bay ran.result.1) (sym accepted) ran.ensures.status)
 
 pub returns-clause-keeps : goal.returns-clause-keeps
 returns-clause-keeps g c = λ none.
-    let ran = c.run_script-status.ensures in
-    record {
-      source_tells = ran.source_tells;
-      source_later = ran.source_later;
-      taken = λ source. record {
-        front = ran.taken source;
-        whole = λ read. ran.read source (read-from c.run_script-status.result.0 (subst IsRead c.code-2.ensures read));
-      };
-      sink_tells = ran.sink_tells;
-      sink_later = ran.sink_later;
-      devices = ran.keeps;
-    }
+    let ran = c.run_script-status in
+    subst (λ code. KeepsOn g.S.Source g.K.Sink g.D.Disk code c.args.source.now ran.new.source c.args.sink.now ran.new.sink c.args.bay ran.result.1) (sym c.code-2.ensures) ran.ensures.keeps
 
 pub returns-then-not-accepts-clause-keeps : goal.returns-then-not-accepts-clause-keeps
 returns-then-not-accepts-clause-keeps g c = λ none. record {
@@ -214,7 +170,7 @@ returns-in-Bank-clause-prints g c = λ form words. absurd (run-no-bank (map stri
 pub returns-clause-prints_some : goal.returns-clause-prints_some
 returns-clause-prints_some g c = λ words played.
     subst (λ code. PrintsOfSome g.D.Disk code c.args.bay c.run_script-status.result.1 (IsTrue (g.S.Source.tells c.args.source.now)) (take read_limit (g.S.Source.rest c.args.source.now)) (IsTrue (g.K.Sink.tells c.args.sink.now)) (g.K.Sink.given c.args.sink.now) (g.K.Sink.given c.run_script-status.new.sink)) (sym c.code-2.ensures)
-    (c.run_script-status.ensures.prints_some (played-from c.run_script-status.result.0 (subst IsPlayed c.code-2.ensures played)))
+    (c.run_script-status.ensures.prints_some (subst IsPlayed c.code-2.ensures played))
 
 pub returns-in-Bank-clause-prints_some : goal.returns-in-Bank-clause-prints_some
 returns-in-Bank-clause-prints_some g c = λ words. absurd (run-no-bank (map string_bytes c.args.words.now) c.in-Bank.transfers words (asked-bank (map string_bytes c.args.words.now) c.in-Bank.transfers (sym c.in-Ok.ensures.asked ∙ c.in-Bank.is)))
