@@ -4,9 +4,9 @@ mod FitTrails
 mod FitVolumes
 mod Folded
 mod Lost
-mod Opening
-mod Shown
-mod Stands
+pub mod Opening
+pub mod Shown
+pub mod Stands
 mod Telling
 mod TrailRules
 mod UpRow

@@ -90,7 +90,7 @@ at_end found log =
 
 module _ {D : Type 0} (kind : disk.Ghosts D) where
   -- the devices told what they held
-  all_tell : (old : List (Fuse D)) → length old ≡ devices → DevicesTell kind.tells old → AllTold (told_by (fuse_kind kind) old) (held_at kind.held old)
+  pub all_tell : (old : List (Fuse D)) → length old ≡ devices → DevicesTell kind.tells old → AllTold (told_by (fuse_kind kind) old) (held_at kind.held old)
   all_tell old count telling device lt =
       let at = some_at old device (omega (arith, lt, count)) in
       ap (λ o. option_and_then (λ fuse. if kind.tells (device_of fuse) then Some (kind.held (device_of fuse)) else None) o) at.1

@@ -1,0 +1,16 @@
+mod Acting
+mod Alone
+mod Changes
+mod Ended
+mod Folds
+mod Found
+mod Given
+mod Landed
+mod Moment
+mod Moments
+mod One
+mod Rooms
+mod Rows
+mod Served
+mod Single
+mod Values

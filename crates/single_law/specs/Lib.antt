@@ -1,0 +1,5 @@
+pub mod Ended
+pub mod Left
+pub mod One
+pub mod Row
+pub mod Single

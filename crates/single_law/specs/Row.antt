@@ -1,0 +1,26 @@
+-- In which order the records of a run stand on the monitor trail.
+use Rattle.std.specs.Prelude.{◌≡◌, ℕ, List, [], ◌∷◌, ◌++◌, Some, slice_get}
+use Rattle.chronicle.specs.Histories.{IsHistory, states_after}
+use Rattle.node_machine.specs.Deeds.{Log}
+use Rattle.node_machine.specs.Monitor.{IsLater, IsRequest, offered_car, recorded}
+use Rattle.node_machine.specs.Node.{node}
+use Rattle.node_machine.specs.Opening.{Found, monitor_part, opening_parts}
+use Rattle.node_machine.specs.Parts.{MonitorPart}
+use Rattle.node_machine.specs.Parts.PartState.{Monitor}
+use Rattle.node_machine.specs.Same.{Among}
+use Rattle.trail_files.specs.declared.monitor_record.MonitorRecord.{MonitorRecord}
+
+-- each record ends a later attempt than those before it, of those of one worker
+abbrev pub AreInRow : List MonitorRecord → Type 0
+AreInRow [] = Unit {0}
+AreInRow (x ∷ xs) = ((y : MonitorRecord) → Among xs y → IsLater x y) × AreInRow xs
+
+-- each record ends an attempt of the run of this epoch
+abbrev pub AreRequests : ℕ → List MonitorRecord → Type 0
+AreRequests epoch xs = (x : MonitorRecord) → Among xs x → IsRequest epoch x
+
+-- In every history the records that have landed, with those that are offered behind them, end attempts of the run, each a later one of its worker than those before.
+abbrev pub OrderLaw : Type 0
+OrderLaw =
+    (found : Found) (log : Log) (s : MonitorPart) → IsHistory node (opening_parts found) log → slice_get (states_after node (opening_parts found) log) monitor_part ≡ Some (Monitor s)
+    → AreInRow (recorded s.events ++ offered_car s.events) × AreRequests found.epoch (recorded s.events ++ offered_car s.events)

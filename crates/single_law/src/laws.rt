@@ -1,0 +1,35 @@
+//! What holds of each run on threads that has one worker.
+ghost use Rattle.single_law.specs.One.{OneEndLaw, OneRunLaw};
+ghost use Rattle.single_law.specs.Row.{OrderLaw};
+ghost use Rattle.single_law.specs.Single.{SingleLaw};
+
+use disk_model::Disk;
+use node_laws::{crash_law, done_law, events_law, holder_law, live_law, reads_law};
+
+/// In every history the monitor's records end attempts of the run, those of one worker in the order of its attempts.
+pub fn order_law()
+    ensures { OrderLaw }
+{}
+
+/// Of a run of one worker over the devices of a node that is up, of which no outcome is the last that the worker carries out, each outcome ends as its item does on the map that those
+/// before it leave; and whatever a crash leaves of the devices stands for what they all leave.
+pub fn single_law<D: Disk>()
+    ensures { SingleLaw D.Disk }
+{
+    crash_law();
+    done_law();
+    events_law();
+    holder_law();
+    live_law();
+    reads_law();
+}
+
+/// An attempt at a transaction that begins at a map ends in one way.
+pub fn one_end_law()
+    ensures { OneEndLaw }
+{}
+
+/// Two runs of one worker with the same transactions, over nodes that stand for one map and for lists of one length, have the same outcomes, whatever their histories.
+pub fn one_run_law()
+    ensures { OneRunLaw }
+{}
