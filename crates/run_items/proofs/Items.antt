@@ -67,6 +67,7 @@ module _ {D : Type 0} (kind : disk.Ghosts D) (config : Config) (phase : Phase) (
   outcome_told log on = record {
     told = tells log on (unbegun log on);
     in_order = λ transaction is. absurd (apart transaction is);
+    last = λ transaction is. absurd (apart transaction is);
     ended = λ begun. absurd (unbegun log on begun);
   }
 

@@ -1,7 +1,7 @@
 -- A run of one transaction over a node whose trails tell what they hold: what it leaves, and an answer that it may not give.
 use Rattle.std.specs.Prelude.{◌≡◌, ℕ, zero, suc, ◌+◌, ◌-◌, ◌<◌, ◌≤◌, ◌==◌, ◌^◌, min, Bool, true, false, List, [], ◌∷◌, ◌++◌, length, filter, replicate, slice_get, Option, Some, None, if◌then◌else◌, cond, option_and_then}
 use Rattle.std.specs.Option.{is_some}
-use Rattle.std.proofs.Common.{refl, sym, ap, subst, ◌∙◌, arith, inl, inr, ⊎_elim, lit<, ◌⊎◌}
+use Rattle.std.proofs.Common.{refl, sym, ap, subst, ◌∙◌, append-nil, arith, inl, inr, ⊎_elim, lit<, ◌⊎◌}
 use Rattle.chronicle.specs.Histories.{events_of, states_after}
 use Rattle.disk_model.specs.Held.{File, Held, IfThere, Leaves, at_rest}
 use Rattle.disk_model.specs.declared.disk.Disk as disk
@@ -29,7 +29,7 @@ use Rattle.trail_files.specs.declared.monitor_record.MonitorRecord.TheVariants.{
 use Rattle.trail_replay.specs.Rules.{rules_of}
 use Rattle.node_machine.proofs.Devices.{images, old_images, opens_here, shown_here}
 use Rattle.node_machine.proofs.Example.{change, config, example, found, log, t}
-use Rattle.node_machine.specs.Acts.{actor}
+use Rattle.node_machine.specs.Acts.{actor, acts_by}
 use Rattle.node_machine.specs.Deeds.{HasBegun, HasEnlisted, HasFinished, HasLetGo, HasReleased, IsInOrder, IsWhole, Log}
 use Rattle.node_machine.specs.Law.{IsFoundTrail}
 use Rattle.node_machine.specs.Node.{node}
@@ -341,6 +341,7 @@ told = record {
     in_order = λ transaction is.
         let same : one_put ≡ transaction = cc (is) in
         subst (λ (x : Transaction). IsInOrder log t x.steps × (HasFinished log t → IsWhole log t x.steps)) same (record { count = 1; done = refl; turn = inl refl }, λ finished. whole);
+    last = λ transaction is. record { first = acts_by t log; last = []; acts_are = sym (append-nil (acts_by t log)); unturned = refl; few = omega arith };
     ended = λ begun. inr (record { let_go = let_go; recorded = inl tt });
   });
   begun = λ u has. (committed_at 2, inl refl, only_begin u has);

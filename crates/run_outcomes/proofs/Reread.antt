@@ -89,6 +89,7 @@ module _ (a : Account) (broken : ℕ → Damage → Type 0) (more : (device : �
         record {
           told = told_more outcome is.told;
           in_order = is.in_order;
+          last = is.last;
           ended = λ begun. ⊎_elim (λ holds. inl holds) (λ (e : IsEnded a outcome.tx outcome.told). inr (record { let_go = e.let_go; recorded = e.recorded })) (is.ended begun);
         };
     begun = told.begun;

@@ -1,5 +1,5 @@
 -- What stands in a run's history for each of its outcomes.
-use Rattle.std.specs.Prelude.{◌≡◌, ◌≢◌, ◌⊎◌, ℕ, suc, ◌+◌, ◌<◌, ◌≤◌, ◌^◌, ◌||◌, Bool, true, false, if◌then◌else◌, List, [], ◌∷◌, map, slice_get, Option, Some, option_and_then}
+use Rattle.std.specs.Prelude.{◌≡◌, ◌≢◌, ◌⊎◌, ℕ, suc, ◌+◌, ◌<◌, ◌≤◌, ◌^◌, ◌||◌, Bool, true, false, if◌then◌else◌, List, [], ◌∷◌, ◌++◌, length, map, slice_get, Option, Some, option_and_then}
 use Rattle.tmf_model.specs.Commits.{numbered, script_transaction}
 use Rattle.tmf_model.specs.declared.config.Config.{Config}
 use Rattle.tmf_model.specs.declared.script.Close.TheVariants as close
@@ -22,7 +22,7 @@ use Rattle.node_machine.specs.declared.event.Event.TheVariants.{OfDisc}
 use Rattle.node_machine.specs.Acts.{actor, acts_by}
 use Rattle.node_machine.specs.declared.event.Event.{Event}
 use Rattle.node_machine.specs.declared.event.WorkerEvent.TheVariants.{End}
-use Rattle.node_machine.specs.Deeds.{Log, HasBegun, HasDumped, HasFailedFor, HasFinished, HasLetGo, HasLowered, HasQuit, HasWorkerEvent, IsInOrder, IsTurnedAt, IsWhole, count_of, is_lock, values_found}
+use Rattle.node_machine.specs.Deeds.{Log, HasBegun, HasDumped, HasFailedFor, HasFinished, HasLetGo, HasLowered, HasQuit, HasWorkerEvent, IsInOrder, IsTurnedAt, IsWhole, count_of, is_lock, turns_of, values_found}
 use Rattle.node_machine.specs.Opening.{disc_part}
 use Rattle.node_machine.specs.Same.{Among}
 use Rattle.run_outcomes.specs.Concerned.{attempt_parts, control_parts, dump_parts, volumes_of_steps}
@@ -202,12 +202,22 @@ pub record IsEnded (a : Account) (t : Transid) (told : Told) : Type 0 where
   pub let_go : HasLetGo a.log t
   pub recorded : IsCommitted told ⊎ Among a.landed (Abort t)
 
+-- of these acts the last one alone may turn the attempt away
+pub record MayTurnLast (t : Transid) (acts : Log) : Type 0 where
+  pub first : Log
+  pub last : Log
+  pub acts_are : acts ≡ first ++ last
+  pub unturned : turns_of t first ≡ []
+  pub few : length last ≤ 1
+
 -- What stands in the history for an outcome, whatever the others tell.
 pub record IsOutcomeTold (a : Account) (outcome : Outcome) : Type 0 where
   pub told : IsTold a outcome
   -- an attempt goes on in the order of its steps, and one that asks for no more has carried out all
   pub in_order : (transaction : Transaction) → script_transaction a.phase a.epoch outcome.tx ≡ Some transaction
       → IsInOrder a.log outcome.tx transaction.steps × (HasFinished a.log outcome.tx → IsWhole a.log outcome.tx transaction.steps)
+  -- an attempt has no act behind one by which it was turned away
+  pub last : (transaction : Transaction) → script_transaction a.phase a.epoch outcome.tx ≡ Some transaction → MayTurnLast outcome.tx (acts_by outcome.tx a.log)
   -- whatever it tells, an attempt that has begun is ended, unless it tells that it may hold on
   pub ended : HasBegun a.log outcome.tx → MayHold outcome.told ⊎ IsEnded a outcome.tx outcome.told
 

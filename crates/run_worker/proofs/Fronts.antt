@@ -29,8 +29,9 @@ use Rattle.node_machine.specs.declared.event.Event.{Event}
 use Rattle.node_machine.specs.declared.event.Event.TheVariants.{OfDisc, OfWorker}
 use Rattle.node_machine.specs.declared.event.WorkerEvent.TheVariants.{Begin, Enlist}
 use Rattle.node_machine.proofs.Placed.{parts_placed}
+use Rattle.run_outcomes.specs.Told.{MayTurnLast}
 use Rattle.run_outcomes.specs.Within.{IsNewAt, WasOpen}
-use Rattle.run_worker.specs.Going.{AreActs, MayTurnLast}
+use Rattle.run_worker.specs.Going.{AreActs}
 use Rattle.run_worker.specs.Steps.{IsOneAct, MayHaveEnlisted}
 use Rattle.run_worker.proofs.Begins.{enlists_once}
 use Rattle.run_worker.proofs.Entries.{entries_append, last_stands, prefix_same, prefix_then, seen_on}

@@ -56,7 +56,7 @@ use Rattle.run_outcomes.specs.Moves.{IsUnmade}
 use Rattle.run_outcomes.specs.Knowing.{StillLaw, ThenLaw}
 use Rattle.run_outcomes.specs.Reach.{HasActed, Reach}
 use Rattle.run_outcomes.specs.Run.{IsBroken}
-use Rattle.run_outcomes.specs.Told.{busy_cause, Account, AreReadsIn, IsAttemptTold, IsCommitted, IsEnded, IsOutcomeTold, MayBeCommitted, MayHold}
+use Rattle.run_outcomes.specs.Told.{busy_cause, Account, AreReadsIn, IsAttemptTold, IsCommitted, IsEnded, IsOutcomeTold, MayBeCommitted, MayHold, MayTurnLast}
 use Rattle.run_outcomes.specs.Within.{KeepsLimit}
 use Rattle.run_outcomes.specs.Worker.{GoesOn, IsToldBehind}
 use Rattle.run_outcomes.specs.declared.outcome.Outcome.{Outcome}
@@ -158,11 +158,12 @@ module _ (law : EventsLaw) (found : Found) (phase : Phase) (broken : ℕ → Dam
   same_script : (other : Transaction) → script_transaction phase found.epoch t ≡ Some other → transaction ≡ other
   same_script other is = (let both : Some transaction ≡ Some other = sym run.script ∙ is in cc (both))
 
-  outcome_told : (log : Log) → IsAttemptTold (account log) t transaction tells → IsUnmade log t → IsInOrder log t transaction.steps → (HasFinished log t → IsWhole log t transaction.steps)
+  outcome_told : (log : Log) → IsAttemptTold (account log) t transaction tells → IsUnmade log t → IsInOrder log t transaction.steps → MayTurnLast t (acts_by t log) → (HasFinished log t → IsWhole log t transaction.steps)
       → (HasBegun log t → MayHold tells ⊎ IsEnded (account log) t tells) → IsOutcomeTold (account log) outcome
-  outcome_told log is_told unmade order whole ended = record {
+  outcome_told log is_told unmade order turned whole ended = record {
     told = inl (transaction, run.script, is_told, unmade);
     in_order = λ other is. subst (λ (x : Transaction). IsInOrder log t x.steps × (HasFinished log t → IsWhole log t x.steps)) (same_script other is) (order, whole);
+    last = λ other is. turned;
     ended = ended;
   }
 
@@ -202,6 +203,7 @@ module _ (law : EventsLaw) (found : Found) (phase : Phase) (broken : ℕ → Dam
           (subst (λ (x : Told). IsAttemptTold (account log) t transaction x) (sym is) (in_parts part which, inl (count_on found new.seat.seen log goes.history goes.begins part found.config.steps spent)))
           goes.moved
           (record { count = 0; done = same.steps ∙ no_steps transaction.steps; turn = inl same.turns })
+          (record { first = []; last = []; acts_are = goes.only; unturned = refl; few = omega arith })
           (λ finished. absurd (never log goes (Finish t) refl finished))
           (λ begun. absurd (never log goes (Begin t) refl begun));
       committed = λ log goes ended. absurd (never log goes (End t) refl ended);
@@ -308,6 +310,7 @@ module _ (law : EventsLaw) (found : Found) (phase : Phase) (broken : ℕ → Dam
             (so.is_told log goes (has_last_in law found t old.seat new.seat log between.state between.part between.at next_is goes.history all.begins goes.begins goes.own discs first first_is last closes all))
             goes.moved
             order
+            (subst (λ (l : Log). MayTurnLast t l) (sym goes.only) gone.last)
             (λ finished. so.whole (finish_in law found t old.seat new.seat log between.state between.part between.at next_is goes.history all.begins goes.begins goes.own discs first first_is last closes all finished) log goes)
             (λ begun. ⊎_elim
             (λ (holds : MayHold tells). inl holds)

@@ -23,7 +23,7 @@ use Rattle.txn_states.specs.Txn.{Txn}
 use Rattle.disc_process.specs.declared.refused.WriteRefused.{WriteRefused}
 use Rattle.disc_process.specs.declared.refused.WriteRefused.TheVariants as refused
 use Rattle.run_outcomes.specs.Reach.{HasActed, Reach}
-use Rattle.run_outcomes.specs.Told.{busy_cause, is_read, read_numbers}
+use Rattle.run_outcomes.specs.Told.{MayTurnLast, busy_cause, is_read, read_numbers}
 use Rattle.run_worker.specs.Refused.{IsStepRefusal}
 use Rattle.run_worker.specs.Shared.{IsRunStep}
 use Rattle.run_worker.specs.Steps.{IsOneAct}
@@ -67,14 +67,6 @@ pub record EndsAtStep (steps : List Step) (count : ℕ) (turns : List Cause) (nu
   pub step : Step
   pub at : numbered steps number ≡ Some step
   pub turned : turns ≡ turns_by step refusal
-
--- of these acts the last one alone may turn the attempt away
-pub record MayTurnLast (t : Transid) (acts : Log) : Type 0 where
-  pub first : Log
-  pub last : Log
-  pub acts_are : acts ≡ first ++ last
-  pub unturned : turns_of t first ≡ []
-  pub few : length last ≤ 1
 
 -- The worker knows the acts of an attempt more. They carry out the first steps, up to so many, each once and in order, and the reads among them have found these values. They are all steps; or
 -- the attempt was stopped at the next one.

@@ -47,6 +47,7 @@ use Rattle.single_law.proofs.Alone.{AreFrom, of_item}
 use Rattle.single_law.proofs.Folds.{same_meaning}
 use Rattle.single_law.proofs.Given.{IsGiven, WasTurned, account, landed, was_turned}
 use Rattle.single_law.proofs.Landed.{IsItemTold, IsOwnEnd, all_are, all_left, at_m, attempt_of, ends_or_item, its, landed_left, m, row, told_as}
+use Rattle.single_law.proofs.Last.{turned_last, IsTurnedLast}
 use Rattle.single_law.proofs.Moment.{IsAround, at_mf, comes_to, commit_told, effect_same, is_around, keys_free, left_by, mf, not_yet}
 use Rattle.single_law.proofs.Moments.{next_enabled, not_before}
 use Rattle.single_law.proofs.Rooms.{HasRoomAfter, full_at, no_room-agree, room_behind, room_nth}
@@ -55,7 +56,7 @@ use Rattle.single_law.proofs.Values.{IsAlwaysAlone, refused_at, served_behind}
 use Rattle.single_law.specs.Ended.{FindsNoRoom, GoesThrough, GoesTo, IsEnd}
 use Rattle.single_law.specs.Left.{end_record, map_left, records_left}
 use Rattle.single_law.specs.Row.{AreInRow}
-use Rattle.single_law.specs.Single.{HasEnded, HaveEnded, IsInTime, IsTurnedLast}
+use Rattle.single_law.specs.Single.{HasEnded, HaveEnded}
 
 -- LISTS
 
@@ -314,12 +315,18 @@ module _ (law : EventsLaw) (holder_law : HolderLaw) (done_law : DoneLaw) (live_l
 
     -- EACH
 
-    ends_as : (how : Told) → outcome.told ≡ how → IsOwnEnd law phase items outcomes found log broken given how → IsInTime log outcome.tx how → EndsAs how
-    ends_as (Committed place reads) is own in_time = committed_ends place reads is
-    ends_as Aborted is own in_time = aborted_ends is
-    ends_as (Full file key) is own in_time = full_ends file key is in_time
-    ends_as (Refused op reason) is own in_time = refused_ends op reason is in_time
-    ends_as _ is own in_time = absurd own
+    -- it has carried out no step behind one that was turned away
+    last_so : (how : Told) → outcome.told ≡ how → IsOwnEnd law phase items outcomes found log broken given how → IsTurnedLast log outcome.tx
+    last_so how is own =
+        let of = attempt_of law phase items outcomes found log broken given outcome how among_outcomes is own in
+        turned_last outcome.tx log ((given.told.each outcome among_outcomes).last of.0 of.1)
+
+    ends_as : (how : Told) → outcome.told ≡ how → IsOwnEnd law phase items outcomes found log broken given how → EndsAs how
+    ends_as (Committed place reads) is own = committed_ends place reads is
+    ends_as Aborted is own = aborted_ends is
+    ends_as (Full file key) is own = full_ends file key is (last_so (Full file key) is own)
+    ends_as (Refused op reason) is own = refused_ends op reason is (last_so (Refused op reason) is own)
+    ends_as _ is own = absurd own
 
     beside : IsAround found.epoch 1 earlier later outcome
     beside = is_around found.epoch 1 earlier later outcome (subst (λ (l : List Outcome). AreFrom found.epoch 1 l) whole (its law phase items outcomes found log broken given).from)
@@ -342,10 +349,10 @@ module _ (law : EventsLaw) (holder_law : HolderLaw) (done_law : DoneLaw) (live_l
     no_item transaction _ at item is = item
 
     ends : (item : Item) (number : ℕ) (transaction : Transaction) → slice_get items number ≡ Some item → outcome.tx ≡ first_attempt found.epoch 1 (suc number) → item ≡ TransactionItem transaction
-        → IsInTime log outcome.tx outcome.told → IsEnd found.config transaction from place_of outcome.told
-    ends item number transaction at tx is in_time = ⊎_elim
+        → IsEnd found.config transaction from place_of outcome.told
+    ends item number transaction at tx is = ⊎_elim
         (λ (own : IsOwnEnd law phase items outcomes found log broken given outcome.told).
-        let e = ends_as outcome.told refl own in_time in
+        let e = ends_as outcome.told refl own in
         let of = of_item phase found.epoch items outcome.tx e.0 given.one e.1 in
         let there : numbered items (suc number) ≡ Some (TransactionItem e.0) = ap (λ (t : Transid). numbered items t.ordinal) (sym tx) ∙ of.item in
         let same : TransactionItem e.0 ≡ TransactionItem transaction = sym (at_numbered items number item (TransactionItem e.0) at there) ∙ is in
@@ -357,7 +364,7 @@ module _ (law : EventsLaw) (holder_law : HolderLaw) (done_law : DoneLaw) (live_l
 
   -- THE RUN
 
-  ended_at : (number : ℕ) (outcome : Outcome) → slice_get outcomes number ≡ Some outcome → HasEnded found.config log phase found.epoch items list map_ (take number outcomes) number outcome
+  ended_at : (number : ℕ) (outcome : Outcome) → slice_get outcomes number ≡ Some outcome → HasEnded found.config phase found.epoch items list map_ (take number outcomes) number outcome
   ended_at number outcome at =
       let whole = list_around outcomes number outcome at in
       let earlier : List Outcome = take number outcomes in
@@ -365,7 +372,7 @@ module _ (law : EventsLaw) (holder_law : HolderLaw) (done_law : DoneLaw) (live_l
       let item = item_there outcomes items number outcome (its law phase items outcomes found log broken given).count at in
       let count : length earlier ≡ number = take_count outcomes number outcome at in
       let tx : outcome.tx ≡ first_attempt found.epoch 1 (suc number) = (beside earlier later outcome whole).tx ∙ ap (λ (n : ℕ). first_attempt found.epoch 1 n) (omega (arith, count)) in
-      record { item = item.0; is_item = item.1; tx = tx; ends = λ transaction is in_time. ends earlier later outcome whole item.0 number transaction item.1 tx is in_time }
+      record { item = item.0; is_item = item.1; tx = tx; ends = λ transaction is. ends earlier later outcome whole item.0 number transaction item.1 tx is }
 
-  pub have_ended : HaveEnded found.config log phase found.epoch items list map_ outcomes
+  pub have_ended : HaveEnded found.config phase found.epoch items list map_ outcomes
   have_ended = record { count = (its law phase items outcomes found log broken given).count; each = ended_at }

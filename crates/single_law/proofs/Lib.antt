@@ -6,6 +6,8 @@ mod Folds
 mod Found
 mod Given
 mod Landed
+mod Last
+mod LateRow
 mod Moment
 mod Moments
 mod One

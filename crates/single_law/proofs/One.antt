@@ -1,5 +1,5 @@
 -- An attempt that begins at a map ends in one way, so the outcomes of one worker are one function of its items, the list and the map.
-use Rattle.std.specs.Prelude.{◌≡◌, ◌⊎◌, ℕ, zero, suc, ◌+◌, ◌<◌, List, [], ◌∷◌, Contains, length, map, take, fold, Option, Some, Result, Ok, Err, slice_get}
+use Rattle.std.specs.Prelude.{◌≡◌, ◌⊎◌, ℕ, zero, suc, ◌+◌, ◌<◌, List, [], ◌∷◌, length, map, take, fold, Option, Some, Result, Ok, Err, slice_get}
 use Rattle.std.proofs.Common.{refl, ap, sym, ◌∙◌, subst, arith, ⊎_elim, inl, inr}
 use Rattle.std.proofs.lemmas.Option.{slice_get_within}
 use Rattle.tmf_model.specs.Effect.{after_step, after_steps, applied, stepped}
@@ -172,13 +172,8 @@ same_lists (x ∷ xs) (y ∷ ys) count each =
     let tail = same_lists xs ys (omega (arith, count)) (λ n a b at_a at_b same. each (suc n) a b at_a at_b (λ i. head i ∷ same i)) in
     λ i. head i ∷ tail i
 
-contains_at : {T : Type 0} (xs : List T) (n : ℕ) (x : T) → slice_get xs n ≡ Some x → Contains xs x
-contains_at [] n x at = absurd (cc (at))
-contains_at (y ∷ xs) zero x at = (0, omega arith, cc (at))
-contains_at (y ∷ xs) (suc n) x at = (let rest = contains_at xs n x at in (suc rest.0, omega (arith, rest.1), rest.2))
-
 pub one_run_law : OneRunLaw
-one_run_law config phase epoch items list other_list map_ log other_log outcomes other_outcomes transactions count one other in_time other_time =
+one_run_law config phase epoch items list other_list map_ outcomes other_outcomes transactions count one other =
     same_lists outcomes other_outcomes (one.count ∙ sym other.count) each
   where
     each : (n : ℕ) (x y : Outcome) → slice_get outcomes n ≡ Some x → slice_get other_outcomes n ≡ Some y → take n outcomes ≡ take n other_outcomes → x ≡ y
@@ -189,8 +184,8 @@ one_run_law config phase epoch items list other_list map_ log other_log outcomes
         let of = transactions n first.item first.is_item in
         let both : Some second.item ≡ Some first.item = sym second.is_item ∙ first.is_item in
         let item : second.item ≡ first.item = cc (both) in
-        let one_ends = first.ends of.0 of.1 (in_time x (contains_at outcomes n x at_x)) in
-        let other_ends = second.ends of.0 (item ∙ of.1) (other_time y (contains_at other_outcomes n y at_y)) in
+        let one_ends = first.ends of.0 of.1 in
+        let other_ends = second.ends of.0 (item ∙ of.1) in
         let here : IsEnd config of.0 (map_left phase epoch (take n outcomes) map_) (length list + suc (length (records_left (take n outcomes)))) y.told =
         subst (λ (l : List Outcome). IsEnd config of.0 (map_left phase epoch l map_) (length list + suc (length (records_left l))) y.told) (sym same)
         (subst (λ (k : ℕ). IsEnd config of.0 (map_left phase epoch (take n other_outcomes) map_) (k + suc (length (records_left (take n other_outcomes)))) y.told) (sym count) other_ends) in

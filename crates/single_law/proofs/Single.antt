@@ -92,7 +92,7 @@ module _ {D : Type 0} (kind : disk.Ghosts D) (phase : Phase) (items : List Item)
         subst (λ (m : RecordMap). StandsWithVolumes found.config images (list ++ records_left outcomes) m) (sym (done_law log (records_left outcomes) map_) ∙ folded)
         (subst (λ (r : List MonitorRecord). StandsWithVolumes found.config images (list ++ r) (after_commits (λ t. Some (done log t)) (commits_of r) map_)) same now.2)
 
-    alone : IsRunAlone kind.held found.config log phase found.epoch items list map_ outcomes new
+    alone : IsRunAlone kind.held found.config phase found.epoch items list map_ outcomes new
     alone = record {
       ended = have_ended events_law holder_law done_law live_law reads_law (rules_of found.config) held (stood found told held list map_ all_told run.valid run.up run.over).bases
           (stood found told held list map_ all_told run.valid run.up run.over).dumps list map_ phase items outcomes found opened log (IsBroken (fuse_kind kind) found.config (λ number. slice_get old number)) given;
@@ -101,7 +101,7 @@ module _ {D : Type 0} (kind : disk.Ghosts D) (phase : Phase) (items : List Item)
 
 -- what is so of a run gives this, whatever its configuration and epoch
 abbrev Gives : {D : Type 0} → disk.Ghosts D → Phase → List Item → (old new : List (Fuse D)) → List Outcome → List MonitorRecord → RecordMap → Found → Log → Config → ℕ → Type 0
-Gives kind phase items old new outcomes list map_ found log config epoch = IsRunOf kind phase items old new outcomes list map_ found log config epoch → IsRunAlone kind.held config log phase epoch items list map_ outcomes new
+Gives kind phase items old new outcomes list map_ found log config epoch = IsRunOf kind phase items old new outcomes list map_ found log config epoch → IsRunAlone kind.held config phase epoch items list map_ outcomes new
 
 pub single_law : CrashLaw → DoneLaw → EventsLaw → HolderLaw → LiveLaw → ReadsLaw → {D : Type 0} (kind : disk.Ghosts D) → SingleLaw kind
 single_law crash_law done_law events_law holder_law live_law reads_law kind = λ config phase epoch items old new outcomes list map_ valid old_count new_count telling up one ran goes.

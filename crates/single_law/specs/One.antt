@@ -1,6 +1,5 @@
--- The history of a run of one worker determines its outcomes.
-use Rattle.std.specs.Prelude.{◌≡◌, ℕ, List, Contains, length, slice_get, Some}
-use Rattle.node_machine.specs.Deeds.{Log}
+-- The outcomes of a run of one worker are one function of its items, the list and the map.
+use Rattle.std.specs.Prelude.{◌≡◌, ℕ, List, length, slice_get, Some}
 use Rattle.run_outcomes.specs.declared.outcome.Outcome.{Outcome}
 use Rattle.run_outcomes.specs.declared.outcome.Told.{Told}
 use Rattle.tmf_model.specs.RecordMap.{RecordMap}
@@ -11,7 +10,7 @@ use Rattle.tmf_model.specs.declared.script.Phase.{Phase}
 use Rattle.tmf_model.specs.declared.script.Transaction.{Transaction}
 use Rattle.trail_files.specs.declared.monitor_record.MonitorRecord.{MonitorRecord}
 use Rattle.single_law.specs.Ended.{IsEnd}
-use Rattle.single_law.specs.Single.{HaveEnded, IsInTime}
+use Rattle.single_law.specs.Single.{HaveEnded}
 
 -- An attempt at a transaction that begins at a map ends in one way.
 abbrev pub OneEndLaw : Type 0
@@ -21,14 +20,9 @@ OneEndLaw = (config : Config) (transaction : Transaction) (map : RecordMap) (pla
 abbrev pub AreTransactions : List Item → Type 0
 AreTransactions items = (number : ℕ) (item : Item) → slice_get items number ≡ Some item → (transaction : Transaction) × (item ≡ TransactionItem transaction)
 
--- where a step of an attempt was turned away, that attempt carries out none behind it
-abbrev pub AreInTime : Log → List Outcome → Type 0
-AreInTime log outcomes = (outcome : Outcome) → Contains outcomes outcome → IsInTime log outcome.tx outcome.told
-
 -- Two runs of one worker with the same transactions, over nodes that stand for one map and for lists of one length, have the same outcomes, whatever their histories.
 abbrev pub OneRunLaw : Type 0
 OneRunLaw =
-    (config : Config) (phase : Phase) (epoch : ℕ) (items : List Item) (list other_list : List MonitorRecord) (map : RecordMap) (log other_log : Log) (outcomes other_outcomes : List Outcome)
+    (config : Config) (phase : Phase) (epoch : ℕ) (items : List Item) (list other_list : List MonitorRecord) (map : RecordMap) (outcomes other_outcomes : List Outcome)
     → AreTransactions items → length list ≡ length other_list
-    → HaveEnded config log phase epoch items list map outcomes → HaveEnded config other_log phase epoch items other_list map other_outcomes
-    → AreInTime log outcomes → AreInTime other_log other_outcomes → outcomes ≡ other_outcomes
+    → HaveEnded config phase epoch items list map outcomes → HaveEnded config phase epoch items other_list map other_outcomes → outcomes ≡ other_outcomes

@@ -1,20 +1,13 @@
 -- What is so of the outcomes of a run of one worker: each ends as its item does on the map that those before it leave.
-use Rattle.std.specs.Prelude.{◌≡◌, ℕ, suc, ◌+◌, false, List, [], ◌∷◌, ◌++◌, Contains, length, take, slice_get, Some}
+use Rattle.std.specs.Prelude.{◌≡◌, ℕ, suc, ◌+◌, false, List, [], ◌∷◌, Contains, length, take, slice_get, Some}
 use Rattle.disk_model.specs.Devices.{AreImages, DevicesTell, held_at}
 use Rattle.disk_model.specs.Held.{Held}
 use Rattle.disk_model.specs.declared.disk.Disk as disk
 use Rattle.disk_model.specs.declared.fuse.Fuse.{Fuse}
-use Rattle.node_machine.specs.Deeds.{Log}
-use Rattle.node_machine.specs.Law.{deeds_of}
-use Rattle.node_machine.specs.declared.event.Cause.{Cause}
-use Rattle.node_machine.specs.declared.event.DiscEvent.TheVariants.{Turn}
-use Rattle.node_machine.specs.declared.event.Event.TheVariants.{OfDisc}
 use Rattle.run_outcomes.specs.Devices.{devices, fuse_kind}
 use Rattle.run_outcomes.specs.Outcomes.{first_attempt, is_last}
 use Rattle.run_outcomes.specs.Run.{HasRun}
 use Rattle.run_outcomes.specs.declared.outcome.Outcome.{Outcome}
-use Rattle.run_outcomes.specs.declared.outcome.Told.{Told}
-use Rattle.run_outcomes.specs.declared.outcome.Told.TheVariants.{Full, Refused}
 use Rattle.run_standing.specs.Made.{StandsBehind}
 use Rattle.run_standing.specs.NodeUp.{IsNodeUp}
 use Rattle.tmf_model.specs.Config.{IsValidConfig}
@@ -24,40 +17,29 @@ use Rattle.tmf_model.specs.declared.script.Item.{Item}
 use Rattle.tmf_model.specs.declared.script.Item.TheVariants.{Transaction as TransactionItem}
 use Rattle.tmf_model.specs.declared.script.Phase.{Phase}
 use Rattle.tmf_model.specs.declared.script.Transaction.{Transaction}
-use Rattle.tmf_model.specs.declared.transid.Transid.{Transid}
 use Rattle.trail_files.specs.declared.monitor_record.MonitorRecord.{MonitorRecord}
 use Rattle.single_law.specs.Ended.{IsEnd}
 use Rattle.single_law.specs.Left.{map_left, records_left}
 
--- the attempt carries out no step behind one that was turned away
-abbrev pub IsTurnedLast : Log → Transid → Type 0
-IsTurnedLast log t = (front rest : Log) (part : ℕ) (cause : Cause) → log ≡ front ++ (part, OfDisc (Turn t cause)) ∷ rest → deeds_of t rest ≡ []
-
--- where it tells of a step that was turned away, it carries out none behind that
-abbrev pub IsInTime : Log → Transid → Told → Type 0
-IsInTime log t (Refused op reason) = IsTurnedLast log t
-IsInTime log t (Full file key) = IsTurnedLast log t
-IsInTime log t _ = Unit {0}
-
 -- The outcome is of the first attempt at the item with this number, counted from 0. If that is a transaction, it ends as this does on the map that the outcomes before it leave, and its
 -- record stands behind theirs.
-pub record HasEnded (config : Config) (log : Log) (phase : Phase) (epoch : ℕ) (items : List Item) (list : List MonitorRecord) (map : RecordMap) (before : List Outcome) (number : ℕ) (outcome : Outcome) : Type 0 where
+pub record HasEnded (config : Config) (phase : Phase) (epoch : ℕ) (items : List Item) (list : List MonitorRecord) (map : RecordMap) (before : List Outcome) (number : ℕ) (outcome : Outcome) : Type 0 where
   pub item : Item
   pub is_item : slice_get items number ≡ Some item
   pub tx : outcome.tx ≡ first_attempt epoch 1 (suc number)
-  pub ends : (transaction : Transaction) → item ≡ TransactionItem transaction → IsInTime log outcome.tx outcome.told
+  pub ends : (transaction : Transaction) → item ≡ TransactionItem transaction
       → IsEnd config transaction (map_left phase epoch before map) (length list + suc (length (records_left before))) outcome.told
 
 -- There is one outcome for each item, in their order, and each ends so.
-pub record HaveEnded (config : Config) (log : Log) (phase : Phase) (epoch : ℕ) (items : List Item) (list : List MonitorRecord) (map : RecordMap) (outcomes : List Outcome) : Type 0 where
+pub record HaveEnded (config : Config) (phase : Phase) (epoch : ℕ) (items : List Item) (list : List MonitorRecord) (map : RecordMap) (outcomes : List Outcome) : Type 0 where
   pub count : length outcomes ≡ length items
-  pub each : (number : ℕ) (outcome : Outcome) → slice_get outcomes number ≡ Some outcome → HasEnded config log phase epoch items list map (take number outcomes) number outcome
+  pub each : (number : ℕ) (outcome : Outcome) → slice_get outcomes number ≡ Some outcome → HasEnded config phase epoch items list map (take number outcomes) number outcome
 
 -- A run of one worker over devices that stood for the list and the map: each outcome ends as its item does, and whatever a crash leaves of the devices stands for the list with the
 -- records that the outcomes leave, and for the map that they come to.
-pub record IsRunAlone {D : Type 0} (held : D → Held) (config : Config) (log : Log) (phase : Phase) (epoch : ℕ) (items : List Item) (list : List MonitorRecord) (map : RecordMap) (outcomes : List Outcome)
+pub record IsRunAlone {D : Type 0} (held : D → Held) (config : Config) (phase : Phase) (epoch : ℕ) (items : List Item) (list : List MonitorRecord) (map : RecordMap) (outcomes : List Outcome)
     (new : List (Fuse D)) : Type 0 where
-  pub ended : HaveEnded config log phase epoch items list map outcomes
+  pub ended : HaveEnded config phase epoch items list map outcomes
   pub stands : (images : ℕ → Held) → AreImages held new images → StandsBehind phase epoch config images list map (records_left outcomes)
 
 -- A run of one worker over the devices of a node that is up, of which no outcome is the last that the worker carries out, is such a run.
@@ -65,5 +47,5 @@ abbrev pub SingleLaw : {D : Type 0} → disk.Ghosts D → Type 0
 SingleLaw {D} kind =
     (config : Config) (phase : Phase) (epoch : ℕ) (items : List Item) (old new : List (Fuse D)) (outcomes : List Outcome) (list : List MonitorRecord) (map : RecordMap)
     → IsValidConfig config → length old ≡ devices → length new ≡ devices → DevicesTell kind.tells old → IsNodeUp config (held_at kind.held old) list map epoch → phase.workers ≡ items ∷ []
-    → (ran : HasRun (fuse_kind kind) config phase epoch old new outcomes) → ((outcome : Outcome) → Contains outcomes outcome → is_last outcome.told ≡ false)
-    → IsRunAlone kind.held config ran.log phase epoch items list map outcomes new
+    → HasRun (fuse_kind kind) config phase epoch old new outcomes → ((outcome : Outcome) → Contains outcomes outcome → is_last outcome.told ≡ false)
+    → IsRunAlone kind.held config phase epoch items list map outcomes new

@@ -75,6 +75,7 @@ module _ {D : Type 0} (kind : disk.Ghosts D) (found : Found) (phase : Phase) (de
     outcome_told so = record {
       told = so;
       in_order = λ transaction script. (in_order transaction.steps, λ finished. absurd (never (Finish t) refl finished));
+      last = λ transaction script. record { first = []; last = []; acts_are = on.only; unturned = refl; few = omega arith };
       ended = λ begun. absurd (unbegun begun);
     }
 
