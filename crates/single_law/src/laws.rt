@@ -1,4 +1,5 @@
 //! What holds of each run on threads that has one worker.
+ghost use Rattle.run_standing.specs.Telling.{telling};
 ghost use Rattle.single_law.specs.One.{OneEndLaw, OneRunLaw};
 ghost use Rattle.single_law.specs.Row.{OrderLaw};
 ghost use Rattle.single_law.specs.Single.{SingleLaw};
@@ -12,9 +13,10 @@ pub fn order_law()
 {}
 
 /// Of a run of one worker over the devices of a node that is up, of which no outcome is the last that the worker carries out, each outcome ends as its item does on the map that those
-/// before it leave; and whatever a crash leaves of the devices stands for what they all leave.
+/// before it leave; and whatever a crash leaves of the devices stands for what they all leave. The same of devices of which no more is known than what they hold, and their counts.
 pub fn single_law<D: Disk>()
-    ensures { SingleLaw D.Disk }
+    ensures ran { SingleLaw D.Disk }
+    ensures known { SingleLaw (telling D.held D.faults) }
 {
     crash_law();
     done_law();
