@@ -22,7 +22,7 @@ use Rattle.disc_process.specs.declared.refused.WriteRefused.{WriteRefused}
 use Rattle.disc_process.specs.declared.refused.WriteRefused.TheVariants as refused
 use Rattle.disc_process.specs.declared.undo_refused.UndoRefused.{UndoRefused}
 use Rattle.disc_process.specs.declared.undo_refused.UndoRefused.TheVariants as stuck
-use Rattle.disc_process.specs.Blocks.{BringsIn, KeepsOthers, cached, with_change}
+use Rattle.disc_process.specs.Blocks.{BringsIn, KeepsOtherBlocks, cached, with_change}
 use Rattle.disc_process.specs.Damage.{WasRight}
 use Rattle.disc_process.specs.Disc.{DiscView}
 use Rattle.disc_process.specs.Draw.{AreDraws, AreForRoom, HasDrawn, HasMadeRoom, HasSoughtRoom, SameWork}
@@ -199,7 +199,7 @@ module _ {D : Type 0} (kind : disk.Ghosts D) (old mid new : DiscView D) (t : Tra
       block = h.block;
       was = subst (λ (x : View D × DiscPart). (cached x.0 change.file (home_of_change x.1 change) ≡ None) ⊎ (cached x.0 change.file (home_of_change x.1 change) ≡ Some h.block))
           (λ j. (blocks j, part j)) h.was;
-      others = subst (λ (x : View D × DiscPart). KeepsOthers x.0 new.blocks change.file (home_of_change x.1 change)) (λ j. (blocks j, part j)) h.others;
+      others = subst (λ (x : View D × DiscPart). KeepsOtherBlocks x.0 new.blocks change.file (home_of_change x.1 change)) (λ j. (blocks j, part j)) h.others;
       cached = subst (λ (s : DiscPart). InCache new.blocks.cache change.file (home_of_change s change) (λ f. f.block ≡ undone_block s change h.block)) part h.cached;
       drawn = h.drawn;
       draws = h.draws;

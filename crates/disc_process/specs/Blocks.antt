@@ -82,25 +82,25 @@ or_else (Some n) other = Some n
 or_else None other = other
 
 -- The frame that gives way for a block which no frame has: that of the least recently used block which need not be drawn, or where there is none, of the least
--- recently used one, which is drawn first.
+-- recently used one, which is drawn first. A frame without a block may give way, too.
 abbrev pub frame_giving_way : CacheView → Option ℕ
 frame_giving_way cache = or_else (victim_of cache) (slice_get cache.order 0)
 
--- a block has gone from the cache, for another one, which no frame had: the frame that gives way had it
+-- a block has gone from the cache, where another one was to be brought in, which no frame had: the frame that gives way had it
 pub record HasGivenWay {D : Type 0} (old new : View D) (file number gone_file gone_number : ℕ) : Type 0 where
   pub gone : cached new gone_file gone_number ≡ None
   pub missed : frame_at old.cache (place_of file number) ≡ None
   pub frame : frame_at old.cache (place_of gone_file gone_number) ≡ frame_giving_way old.cache
 
--- each block but this one is in the cache as it was, or has given way for this one
-abbrev pub KeepsOthers : {D : Type 0} → View D → View D → ℕ → ℕ → Type 0
-KeepsOthers old new file number = (g n : ℕ) → n < 256 → (g ≢ file) ⊎ (n ≢ number) → (cached new g n ≡ cached old g n) ⊎ HasGivenWay old new file number g n
+-- each block but this one is in the cache as it was, or has given way where this one was to be brought in
+abbrev pub KeepsOtherBlocks : {D : Type 0} → View D → View D → ℕ → ℕ → Type 0
+KeepsOtherBlocks old new file number = (g n : ℕ) → n < 256 → (g ≢ file) ⊎ (n ≢ number) → (cached new g n ≡ cached old g n) ⊎ HasGivenWay old new file number g n
 
 -- the cache has each block that it had
 abbrev pub SameCached : {D : Type 0} → View D → View D → Type 0
 SameCached old new = (file number : ℕ) → number < 256 → cached new file number ≡ cached old file number
 
--- A block may have been brought into the cache: it was not there, or is as it was. Each other one is as it was, or has given way for it.
+-- A block may have been brought into the cache: it was not there, or is as it was. Each other one is as it was, or has given way where it was to be brought in.
 pub record BringsIn {D : Type 0} (old new : View D) (file number : ℕ) : Type 0 where
   pub was : number < 256 → (cached old file number ≡ None) ⊎ (cached new file number ≡ cached old file number)
-  pub others : KeepsOthers old new file number
+  pub others : KeepsOtherBlocks old new file number

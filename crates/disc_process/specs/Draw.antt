@@ -87,7 +87,7 @@ HasRoom blocks f n = entry_at blocks.cache f n ≡ None → IsSome (victim_of bl
 abbrev pub AreForRoom : {D : Type 0} → View D → ℕ → ℕ → List Event → Type 0
 AreForRoom blocks f n events = ((events ≡ []) × HasRoom blocks f n) ⊎ MakeRoom blocks f n events
 
--- Room was made for a block: a frame can give way for it with nothing to draw, and it is the one that had to give way. Each frame has the block that it had.
+-- Room was made for a block: it is in the cache, or a frame can give way for it with nothing to draw, and that is the one that had to give way. Each frame has the block that it had.
 pub record HasWay {D : Type 0} (old new : View D) (f n : ℕ) : Type 0 where
   pub room : HasRoom new f n
   pub label : new.label ≡ old.label

@@ -23,7 +23,7 @@ use Rattle.disc_process.specs.declared.refused.WriteRefused.{WriteRefused}
 use Rattle.disc_process.specs.declared.refused.WriteRefused.TheVariants as refused
 use Rattle.disc_process.specs.declared.undo_refused.UndoRefused.{UndoRefused}
 use Rattle.disc_process.specs.declared.undo_refused.UndoRefused.TheVariants as stuck
-use Rattle.disc_process.specs.Blocks.{BringsIn, KeepsOthers, cached, with_change}
+use Rattle.disc_process.specs.Blocks.{BringsIn, KeepsOtherBlocks, cached, with_change}
 use Rattle.disc_process.specs.Damage.{WasRight}
 use Rattle.disc_process.specs.Disc.{DiscView}
 use Rattle.disc_process.specs.Draw.{AreDraws, AreForRoom, HasDrawn, HasMadeRoom, HasOnlySeen, HasSoughtRoom, IsDrawRefusal, is_draw}
@@ -62,7 +62,7 @@ undone_block s change block = with_change change.key change.before (next_positio
 pub record HasUndone {D : Type 0} (old new : DiscView D) (t : Transid) (change : Change) : Type 0 where
   pub block : KeyedBlock
   pub was : (cached old.blocks change.file (home_of_change old.part change) ≡ None) ⊎ (cached old.blocks change.file (home_of_change old.part change) ≡ Some block)
-  pub others : KeepsOthers old.blocks new.blocks change.file (home_of_change old.part change)
+  pub others : KeepsOtherBlocks old.blocks new.blocks change.file (home_of_change old.part change)
   pub cached : InCache new.blocks.cache change.file (home_of_change old.part change) (λ f. f.block ≡ undone_block old.part change block)
   pub drawn : List Event
   pub draws : AreDraws drawn

@@ -27,7 +27,7 @@ use Rattle.disc_process.specs.declared.refused.WriteRefused.{WriteRefused}
 use Rattle.disc_process.specs.declared.refused.WriteRefused.TheVariants as refused
 use Rattle.disc_process.specs.declared.found.Found.{Found}
 use Rattle.disc_process.specs.declared.found.Found.TheVariants as found
-use Rattle.disc_process.specs.Blocks.{BringsIn, KeepsOthers, cached, with_change}
+use Rattle.disc_process.specs.Blocks.{BringsIn, KeepsOtherBlocks, cached, with_change}
 use Rattle.disc_process.specs.Damage.{HadBadBlock, WasRight}
 use Rattle.disc_process.specs.Disc.{DiscView, FindsIn, IsFit, IsSpent, event_of}
 use Rattle.disc_process.specs.Draw.{AreDraws, AreForRoom, HasDrawn, HasMadeRoom, HasSoughtRoom, IsDrawRefusal}
@@ -96,7 +96,7 @@ pub record HasCarriedOut {D : Type 0} (old new : DiscView D) (t_old t_new : Txn)
   pub begun : MayBegin old new t_old step
   pub block : KeyedBlock
   pub was : (cached old.blocks step.file (home_block old.part.config step.file step.key) ≡ None) ⊎ (cached old.blocks step.file (home_block old.part.config step.file step.key) ≡ Some block)
-  pub others : KeepsOthers old.blocks new.blocks step.file (home_block old.part.config step.file step.key)
+  pub others : KeepsOtherBlocks old.blocks new.blocks step.file (home_block old.part.config step.file step.key)
   pub finds : FindsIn old.part step (home_block old.part.config step.file step.key) what block
   pub cached : HasBlockAfter new.blocks old.part step what block
   pub drawn : List Event

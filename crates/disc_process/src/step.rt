@@ -1,4 +1,4 @@
-//! Steps on keys: what a step comes to in its block, and how it is carried out.
+//! Steps of transactions, on keys and on whole files: what a step comes to in its block, and how it is carried out.
 ghost use Rattle.std.specs.Prelude.{◌≡◌, ◌<◌, ◌≤◌, ◌+◌, ◌-◌, ◌++◌, ◌∷◌, [], Option, Some, None, Ok, Err, IfOk, IfSome, IfNone, OnOk, OnErr, ⊤, true, false, bytes_eq};
 ghost use mathlib.Core.List.{IsPrefix};
 ghost use Rattle.chronicle.specs.Seats.{own_events};
