@@ -45,7 +45,7 @@ use Rattle.run_outcomes.specs.declared.outcome.Told.TheVariants.{Aborted, Commit
 use Rattle.single_law.proofs.Acting.{IsActing}
 use Rattle.single_law.proofs.Alone.{AreFrom, of_item}
 use Rattle.single_law.proofs.Folds.{same_meaning}
-use Rattle.single_law.proofs.Given.{IsGiven, WasTurned, account, landed, was_turned}
+use Rattle.single_law.proofs.Given.{IsGiven, WasTurned, account, landed, list_around, was_turned}
 use Rattle.single_law.proofs.Landed.{IsItemTold, IsOwnEnd, all_are, all_left, at_m, attempt_of, ends_or_item, its, landed_left, m, row, told_as}
 use Rattle.single_law.proofs.Last.{turned_last, IsTurnedLast}
 use Rattle.single_law.proofs.Moment.{IsAround, at_mf, comes_to, commit_told, effect_same, is_around, keys_free, left_by, mf, not_yet}
@@ -59,12 +59,6 @@ use Rattle.single_law.specs.Row.{AreInRow}
 use Rattle.single_law.specs.Single.{HasEnded, HaveEnded}
 
 -- LISTS
-
--- a list around the item of a number
-list_around : {T : Type 0} (xs : List T) (n : ℕ) (x : T) → slice_get xs n ≡ Some x → xs ≡ take n xs ++ x ∷ drop (suc n) xs
-list_around [] n x at = absurd (cc (at))
-list_around (y ∷ xs) zero x at = (let same : y ≡ x = cc (at) in ap (λ z. z ∷ xs) same)
-list_around (y ∷ xs) (suc n) x at = ap (λ zs. y ∷ zs) (list_around xs n x at)
 
 take_count : {T : Type 0} (xs : List T) (n : ℕ) (x : T) → slice_get xs n ≡ Some x → length (take n xs) ≡ n
 take_count [] n x at = absurd (cc (at))

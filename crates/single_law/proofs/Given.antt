@@ -1,5 +1,5 @@
 -- What is given of the run of one worker; and that each record of the monitor trail is of an attempt that has begun.
-use Rattle.std.specs.Prelude.{◌≡◌, ℕ, zero, suc, Bool, true, false, if◌then◌else◌, List, [], ◌∷◌, ◌++◌, Option, Some, None, slice_get}
+use Rattle.std.specs.Prelude.{◌≡◌, ℕ, zero, suc, Bool, true, false, if◌then◌else◌, List, [], ◌∷◌, ◌++◌, Option, Some, None, drop, slice_get, take}
 use Rattle.std.specs.List.{cons_option, filter_map}
 use Rattle.std.proofs.Common.{refl, ap, sym, ◌∙◌, subst, arith, append_assoc, append-nil, ⊎_elim, inl, inr}
 use Rattle.chronicle.proofs.States.{history_rest, state_after, state_is_own, states_after-append}
@@ -64,6 +64,12 @@ pub among_at : {A : Type 0} (xs : List A) (n : ℕ) (x : A) → slice_get xs n �
 among_at [] n x at = absurd (cc (at))
 among_at (y ∷ xs) zero x at = inl (cc (at))
 among_at (y ∷ xs) (suc n) x at = inr (among_at xs n x at)
+
+-- a list around the item of a number
+pub list_around : {A : Type 0} (xs : List A) (n : ℕ) (x : A) → slice_get xs n ≡ Some x → xs ≡ take n xs ++ x ∷ drop (suc n) xs
+list_around [] n x at = absurd (cc (at))
+list_around (y ∷ xs) zero x at = (let same : y ≡ x = cc (at) in ap (λ z. z ∷ xs) same)
+list_around (y ∷ xs) (suc n) x at = ap (λ zs. y ∷ zs) (list_around xs n x at)
 
 -- THE MONITOR'S PART
 

@@ -10,9 +10,11 @@ mod Last
 mod LateRow
 mod Moment
 mod Moments
+mod NoDump
 mod One
 mod Rooms
 mod Rows
 mod Served
 mod Single
+mod Standing
 mod Values

@@ -1,22 +1,19 @@
 -- What a run of one worker makes of a node that is up.
-use Rattle.std.specs.Prelude.{◌≡◌, ℕ, ◌<◌, false, List, [], ◌∷◌, ◌++◌, Contains, slice_get, Option, Some}
-use Rattle.std.proofs.Common.{suc, sym, ◌∙◌, subst, arith, ⊎_elim, inl, inr}
+use Rattle.std.specs.Prelude.{◌≡◌, ℕ, false, List, [], ◌∷◌, ◌++◌, Contains, slice_get, Option}
+use Rattle.std.proofs.Common.{suc, ◌∙◌, subst, arith, inl, inr}
 use Rattle.chronicle.specs.Histories.{IsHistory, states_after}
-use Rattle.disk_model.specs.Devices.{AreImages, held_at}
+use Rattle.disk_model.specs.Devices.{held_at}
 use Rattle.disk_model.specs.Held.{Held}
 use Rattle.disk_model.specs.declared.disk.Disk as disk
 use Rattle.disk_model.specs.declared.fuse.Fuse.{Fuse}
-use Rattle.tmf_model.specs.Commits.{after_commits}
 use Rattle.tmf_model.specs.Config.{IsValidConfig}
 use Rattle.tmf_model.specs.RecordMap.{RecordMap}
 use Rattle.tmf_model.specs.declared.config.Config.{Config}
 use Rattle.tmf_model.specs.declared.script.Item.{Item}
 use Rattle.tmf_model.specs.declared.script.Phase.{Phase}
-use Rattle.trail_files.specs.Recovered.{commits_of}
 use Rattle.trail_files.specs.declared.monitor_record.MonitorRecord.{MonitorRecord}
 use Rattle.trail_replay.specs.Rules.{rules_of}
-use Rattle.volume_recovery.specs.VolumeNode.{StandsWithVolumes}
-use Rattle.node_machine.specs.Deeds.{DoneLaw, EventsLaw, Log, done}
+use Rattle.node_machine.specs.Deeds.{DoneLaw, EventsLaw, Log}
 use Rattle.node_machine.specs.Holders.{HolderLaw}
 use Rattle.node_machine.specs.Law.{CrashLaw, IsOpening}
 use Rattle.node_machine.specs.Live.{LiveLaw}
@@ -26,23 +23,21 @@ use Rattle.node_machine.specs.Opening.{Found, opening_parts}
 use Rattle.node_machine.specs.Parts.{PartState}
 use Rattle.node_machine.specs.Reads.{ReadsLaw}
 use Rattle.node_machine.specs.Same.{Among}
-use Rattle.run_outcomes.specs.Devices.{devices, fuse_kind, told_by}
+use Rattle.run_outcomes.specs.Devices.{fuse_kind, told_by}
 use Rattle.run_outcomes.specs.Ends.{monitor_events}
 use Rattle.run_outcomes.specs.Found.{IsFoundOver}
 use Rattle.run_outcomes.specs.Outcomes.{AreOutcomesOf, is_last}
 use Rattle.run_outcomes.specs.Run.{IsBroken, account_of}
-use Rattle.run_outcomes.specs.Shows.{ShowsDevice}
 use Rattle.run_outcomes.specs.Told.{AreTold, IsRecordOf}
 use Rattle.run_outcomes.specs.declared.outcome.Outcome.{Outcome}
 use Rattle.run_standing.proofs.Opening.{AllTold, opening, stood}
-use Rattle.run_standing.proofs.Shown.{left, some_at}
 use Rattle.run_standing.proofs.Stands.{all_tell}
-use Rattle.run_standing.specs.Made.{StandsBehind}
 use Rattle.run_standing.specs.NodeUp.{IsNodeUp}
-use Rattle.single_law.proofs.Ended.{have_ended, left_folds}
+use Rattle.single_law.proofs.Ended.{have_ended}
 use Rattle.single_law.proofs.Given.{IsGiven}
-use Rattle.single_law.proofs.Landed.{all_left, landed_left}
-use Rattle.single_law.specs.Left.{records_left}
+use Rattle.single_law.proofs.Landed.{all_left, landed_left, none_offered, row}
+use Rattle.single_law.proofs.Standing.{HasMadeSo, made_by}
+use Rattle.single_law.specs.Row.{AreInRow}
 use Rattle.single_law.specs.Single.{IsRunAlone, SingleLaw}
 
 contains : {T : Type 0} (xs : List T) (x : T) → Among xs x → Contains xs x
@@ -67,9 +62,9 @@ module _ {D : Type 0} (kind : disk.Ghosts D) (phase : Phase) (items : List Item)
     pub over : IsFoundOver config told epoch found
     pub attempts : AreOutcomesOf phase epoch outcomes
     pub told_of : AreTold (account_of (fuse_kind kind) config phase epoch (λ number. slice_get old number) found log) outcomes
-    pub shown : (images : ℕ → Held) → AreImages kind.held new images → (device : ℕ) → device < devices → ShowsDevice config told states (images device) device
+    pub made : HasMadeSo kind phase old new outcomes list map_ found log config epoch
 
-  module _ (crash_law : CrashLaw) (done_law : DoneLaw) (events_law : EventsLaw) (holder_law : HolderLaw) (live_law : LiveLaw) (reads_law : ReadsLaw) (all_told : AllTold told held)
+  module _ (done_law : DoneLaw) (events_law : EventsLaw) (holder_law : HolderLaw) (live_law : LiveLaw) (reads_law : ReadsLaw) (all_told : AllTold told held)
       (history : IsHistory node (opening_parts found) log) (one : phase.workers ≡ items ∷ [])
       (records : (item : MonitorRecord) → Among (recorded (monitor_events states) ++ offered_car (monitor_events states)) item → IsRecordOf outcomes item)
       (goes : (outcome : Outcome) → Among outcomes outcome → is_last outcome.told ≡ false) (run : IsRunOf found.config found.epoch) where
@@ -79,29 +74,19 @@ module _ {D : Type 0} (kind : disk.Ghosts D) (phase : Phase) (items : List Item)
     given : IsGiven phase items outcomes found log (IsBroken (fuse_kind kind) found.config (λ number. slice_get old number))
     given = record { one = one; history = history; attempts = run.attempts; told = run.told_of; records = records; goes = goes }
 
-    -- the images stand for what the outcomes leave
-    stands : (images : ℕ → Held) → AreImages kind.held new images → StandsBehind phase found.epoch found.config images list map_ (records_left outcomes)
-    stands images are =
-        let now = left crash_law done_law found told held images list map_ log all_told run.valid run.up run.over history (run.shown images are) in
-        let same : now.0 ≡ records_left outcomes = ⊎_elim
-        (λ (is : now.0 ≡ recorded (monitor_events states)). is ∙ landed_left events_law phase items outcomes found log (IsBroken (fuse_kind kind) found.config (λ number. slice_get old number)) given)
-        (λ (is : now.0 ≡ recorded (monitor_events states) ++ offered_car (monitor_events states)). is ∙ all_left events_law phase items outcomes found log (IsBroken (fuse_kind kind) found.config (λ number. slice_get old number)) given)
-        now.1 in
-        let folded = left_folds events_law holder_law done_law live_law reads_law (rules_of found.config) held (stood found told held list map_ all_told run.valid run.up run.over).bases
-        (stood found told held list map_ all_told run.valid run.up run.over).dumps list map_ phase items outcomes found opened log (IsBroken (fuse_kind kind) found.config (λ number. slice_get old number)) given outcomes (λ e has. has) in
-        subst (λ (m : RecordMap). StandsWithVolumes found.config images (list ++ records_left outcomes) m) (sym (done_law log (records_left outcomes) map_) ∙ folded)
-        (subst (λ (r : List MonitorRecord). StandsWithVolumes found.config images (list ++ r) (after_commits (λ t. Some (done log t)) (commits_of r) map_)) same now.2)
-
-    alone : IsRunAlone kind.held found.config phase found.epoch items list map_ outcomes new
+    alone : IsRunAlone kind.held found.config phase found.epoch items list map_ outcomes old new
     alone = record {
       ended = have_ended events_law holder_law done_law live_law reads_law (rules_of found.config) held (stood found told held list map_ all_told run.valid run.up run.over).bases
           (stood found told held list map_ all_told run.valid run.up run.over).dumps list map_ phase items outcomes found opened log (IsBroken (fuse_kind kind) found.config (λ number. slice_get old number)) given;
-      stands = stands;
+      made = run.made.0;
+      landed = run.made.1 ∙ landed_left events_law phase items outcomes found log (IsBroken (fuse_kind kind) found.config (λ number. slice_get old number)) given;
+      offered = run.made.2 ∙ none_offered events_law phase items outcomes found log (IsBroken (fuse_kind kind) found.config (λ number. slice_get old number)) given;
+      row = subst AreInRow (all_left events_law phase items outcomes found log (IsBroken (fuse_kind kind) found.config (λ number. slice_get old number)) given) (row events_law phase items outcomes found log (IsBroken (fuse_kind kind) found.config (λ number. slice_get old number)) given);
     }
 
 -- what is so of a run gives this, whatever its configuration and epoch
 abbrev Gives : {D : Type 0} → disk.Ghosts D → Phase → List Item → (old new : List (Fuse D)) → List Outcome → List MonitorRecord → RecordMap → Found → Log → Config → ℕ → Type 0
-Gives kind phase items old new outcomes list map_ found log config epoch = IsRunOf kind phase items old new outcomes list map_ found log config epoch → IsRunAlone kind.held config phase epoch items list map_ outcomes new
+Gives kind phase items old new outcomes list map_ found log config epoch = IsRunOf kind phase items old new outcomes list map_ found log config epoch → IsRunAlone kind.held config phase epoch items list map_ outcomes old new
 
 pub single_law : CrashLaw → DoneLaw → EventsLaw → HolderLaw → LiveLaw → ReadsLaw → {D : Type 0} (kind : disk.Ghosts D) → SingleLaw kind
 single_law crash_law done_law events_law holder_law live_law reads_law kind = λ config phase epoch items old new outcomes list map_ valid old_count new_count telling up one ran goes.
@@ -109,7 +94,7 @@ single_law crash_law done_law events_law holder_law live_law reads_law kind = λ
     let log = ran.log in
     let over = ran.opens in
     let at_found : Gives kind phase items old new outcomes list map_ found log found.config found.epoch =
-    alone kind phase items old new outcomes list map_ found log crash_law done_law events_law holder_law live_law reads_law (all_tell kind old old_count telling) ran.history one ran.records
+    alone kind phase items old new outcomes list map_ found log done_law events_law holder_law live_law reads_law (all_tell kind old old_count telling) ran.history one ran.records
     (λ outcome has. goes outcome (contains outcomes outcome has)) in
     subst (λ (c : Config). Gives kind phase items old new outcomes list map_ found log c epoch) over.config_is
     (subst (λ (e : ℕ). Gives kind phase items old new outcomes list map_ found log found.config e) over.epoch_is at_found)
@@ -119,5 +104,5 @@ single_law crash_law done_law events_law holder_law live_law reads_law kind = λ
       over = over;
       attempts = ran.attempts;
       told_of = ran.told;
-      shown = λ images are device lt. (let at = some_at new device (omega (arith, lt, new_count)) in ran.shown device at.0 (images device) at.1 (are device at.0 at.1));
+      made = made_by crash_law done_law reads_law kind config phase epoch old new outcomes list map_ valid old_count new_count telling up ran;
     })

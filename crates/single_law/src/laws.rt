@@ -1,7 +1,8 @@
-//! What holds of each run on threads that has one worker.
+//! What holds of each run on threads that has one worker; and of the records and the dumps of each run.
 ghost use Rattle.run_standing.specs.Telling.{telling};
+ghost use Rattle.single_law.specs.NoDump.{NoDumpLaw};
 ghost use Rattle.single_law.specs.One.{OneEndLaw, OneRunLaw};
-ghost use Rattle.single_law.specs.Row.{OrderLaw};
+ghost use Rattle.single_law.specs.Row.{OrderLaw, RowLaw};
 ghost use Rattle.single_law.specs.Single.{SingleLaw};
 
 use disk_model::Disk;
@@ -12,8 +13,25 @@ pub fn order_law()
     ensures { OrderLaw }
 {}
 
+/// Behind a run over the devices of a node that is up the records that have landed, with those that were offered, end attempts of the run, those of one worker in the order of its attempts.
+pub fn row_law<D: Disk>()
+    ensures { RowLaw D.Disk }
+{
+    crash_law();
+    done_law();
+    reads_law();
+}
+
+/// Behind a run over the devices of a node that is up, of which all items are transactions, a dump device that surely had no dump has none. The same of devices of which no more is
+/// known than what they hold, and their counts.
+pub fn no_dump_law<D: Disk>()
+    ensures ran { NoDumpLaw D.Disk }
+    ensures known { NoDumpLaw (telling D.held D.faults) }
+{}
+
 /// Of a run of one worker over the devices of a node that is up, of which no outcome is the last that the worker carries out, each outcome ends as its item does on the map that those
-/// before it leave; and whatever a crash leaves of the devices stands for what they all leave. The same of devices of which no more is known than what they hold, and their counts.
+/// before it leave; and in what the run has made of the node exactly the records that they leave have landed. The same of devices of which no more is known than what they hold, and their
+/// counts.
 pub fn single_law<D: Disk>()
     ensures ran { SingleLaw D.Disk }
     ensures known { SingleLaw (telling D.held D.faults) }
