@@ -3,7 +3,6 @@ use Rattle.std.specs.Prelude.{flat_map}
 use Rattle.std.specs.Fmt.{digits}
 use Rattle.std.proofs.Common.{◌≡◌, ℕ, Bool, true, false, List, [], ◌∷◌, ◌++◌, codes, refl}
 use Rattle.tmf_lines.specs.declared.line.ActionKind.TheVariants as asked
-use Rattle.tmf_lines.specs.declared.line.DeviceTrouble.TheVariants as trouble
 use Rattle.tmf_lines.specs.declared.line.Line.TheVariants as line
 use Rattle.tmf_lines.specs.declared.line.PartName.{PartName}
 use Rattle.tmf_lines.specs.declared.line.PartName.TheVariants.{Worker, Device}
@@ -45,16 +44,14 @@ second_recovery : recovered_lines first 2 (Start 1 ∷ Commit (item 1 1) ∷ Sta
     ≡ line.Recorded 3 (Start 2) ∷ line.Recorded 4 (Commit (item 2 1)) ∷ line.LostVolume (codes "$DATA1") ∷ line.Recovered 3 ∷ []
 second_recovery = refl
 
--- the lines of what is not done, and those that end a call early
+-- the lines of what is not done
 refusals : lines_text
     (line.DumpsFailed (codes "$DATA1") ∷ line.LostVolume (codes "$DATA1") ∷ line.Removed (codes "$DATA2") ∷ line.LoseFailed (codes "$DATA1") ∷ line.NotUp asked.Recover ∷ line.Failed asked.Recover (codes "AUX1") ∷ line.Damaged asked.Recover (codes "MAT") (record { file = 1; at = 0; kind = kind.Missing })
     ∷ line.EpochsSpent ∷ line.NotUp asked.Run ∷ line.ListNotUp (codes "ACCT") ∷ line.ListFailed (codes "ACCT") (codes "$DATA1")
-    ∷ line.ListDamaged (codes "ACCT") (codes "AUX1") (record { file = 2; at = 17; kind = kind.BadRecord })
-    ∷ line.Stopped (codes "MAT") trouble.Failed ∷ line.Stopped (codes "AUX1") trouble.Damaged ∷ []) ≡ text_of
+    ∷ line.ListDamaged (codes "ACCT") (codes "AUX1") (record { file = 2; at = 17; kind = kind.BadRecord }) ∷ []) ≡ text_of
     (codes "format failed DUMP$DATA1" ∷ codes "lost $DATA1" ∷ codes "lost $DATA2" ∷ codes "lose $DATA1 failed $DATA1" ∷ codes "recover not up" ∷ codes "recover failed AUX1" ∷ codes "recover damaged MAT 1 0 missing"
     ∷ codes "recover epochs spent" ∷ codes "run not up" ∷ codes "list ACCT not up" ∷ codes "list ACCT failed $DATA1"
-    ∷ codes "list ACCT damaged AUX1 2 17 record"
-    ∷ codes "stopped MAT failed" ∷ codes "stopped AUX1 damaged" ∷ [])
+    ∷ codes "list ACCT damaged AUX1 2 17 record" ∷ [])
 unfolding digits
 refusals = refl
 

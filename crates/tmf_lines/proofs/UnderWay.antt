@@ -6,7 +6,7 @@ use Rattle.std.proofs.lemmas.List.{append_assoc, append-nil, length-append, take
 use Rattle.std.proofs.lemmas.Option.{slice_get_read}
 use Rattle.trail_files.specs.declared.monitor_record.MonitorRecord.{MonitorRecord}
 use Rattle.tmf_lines.specs.declared.line.Line.{Line}
-use Rattle.tmf_lines.specs.declared.line.Line.TheVariants.{Formatted, Committed, Read, ReadAbsent, Aborted, Refused, Full, Busy, Spent, SpentWorker, AttemptFailed, AttemptDamaged, InDoubt, Hanging, HangingDamaged, HangingMemory, Skipped, Memory, Controlled, Dumped, Dumping, Recorded, LostVolume, Removed, LoseFailed, Rolled, RollNotUp, NotLost, NoDump, RollFailed, RollDamaged, Recovered, Entry, Listed, NotUp, DumpsFailed, Failed, Damaged, RunFailed, RunDamaged, EpochsSpent, ListNotUp, ListFailed, ListDamaged, NotScript, Stopped, Usage}
+use Rattle.tmf_lines.specs.declared.line.Line.TheVariants.{Formatted, Committed, Read, ReadAbsent, Aborted, Refused, Full, Busy, Spent, SpentWorker, AttemptFailed, AttemptDamaged, InDoubt, Hanging, HangingDamaged, HangingMemory, Skipped, Memory, Controlled, Dumped, Dumping, Recorded, LostVolume, Removed, LoseFailed, Rolled, RollNotUp, NotLost, NoDump, RollFailed, RollDamaged, Recovered, Entry, Listed, NotUp, DumpsFailed, Failed, Damaged, RunFailed, RunDamaged, EpochsSpent, ListNotUp, ListFailed, ListDamaged, NotScript, Usage}
 use Rattle.tmf_lines.specs.declared.output.GiveFault.{GiveFault}
 use Rattle.tmf_lines.specs.declared.output.GiveFault.TheVariants.{NoMemory, SinkFailed}
 use Rattle.tmf_lines.specs.Line.{AreRecords, IsNotGiven, is_record}
@@ -99,7 +99,6 @@ record-is (ListNotUp file) e = absurd (cc e)
 record-is (ListFailed file device) e = absurd (cc e)
 record-is (ListDamaged file device damage) e = absurd (cc e)
 record-is (NotScript line why) e = absurd (cc e)
-record-is (Stopped device trouble) e = absurd (cc e)
 record-is Usage e = absurd (cc e)
 
 -- each of the lines is one

@@ -13,13 +13,11 @@ use Rattle.trail_files.specs.declared.damage.DamageKind.TheVariants as kind
 use Rattle.tmf_lines.specs.declared.line.ActionKind.{ActionKind}
 use Rattle.tmf_lines.specs.declared.line.ActionKind.TheVariants as asked
 use Rattle.tmf_lines.specs.declared.line.Line.{Line}
-use Rattle.tmf_lines.specs.declared.line.Line.TheVariants.{Formatted, Committed, Read, ReadAbsent, Aborted, Refused, Full, Busy, Spent, SpentWorker, AttemptFailed, AttemptDamaged, InDoubt, Hanging, HangingDamaged, HangingMemory, Skipped, Memory, Controlled, Dumped, Dumping, Recorded, LostVolume, Removed, LoseFailed, Rolled, RollNotUp, NotLost, NoDump, RollFailed, RollDamaged, Recovered, Entry, Listed, NotUp, DumpsFailed, RunFailed, RunDamaged, EpochsSpent, ListNotUp, ListFailed, ListDamaged, NotScript, Stopped, Usage}
+use Rattle.tmf_lines.specs.declared.line.Line.TheVariants.{Formatted, Committed, Read, ReadAbsent, Aborted, Refused, Full, Busy, Spent, SpentWorker, AttemptFailed, AttemptDamaged, InDoubt, Hanging, HangingDamaged, HangingMemory, Skipped, Memory, Controlled, Dumped, Dumping, Recorded, LostVolume, Removed, LoseFailed, Rolled, RollNotUp, NotLost, NoDump, RollFailed, RollDamaged, Recovered, Entry, Listed, NotUp, DumpsFailed, RunFailed, RunDamaged, EpochsSpent, ListNotUp, ListFailed, ListDamaged, NotScript, Usage}
 use Rattle.tmf_lines.specs.declared.line.Line.TheVariants as line
 use Rattle.tmf_lines.specs.declared.line.DeviceName.{DeviceName}
 use Rattle.tmf_lines.specs.declared.line.PartName.{PartName}
 use Rattle.tmf_lines.specs.declared.line.PartName.TheVariants.{Worker, Device}
-use Rattle.tmf_lines.specs.declared.line.DeviceTrouble.{DeviceTrouble}
-use Rattle.tmf_lines.specs.declared.line.DeviceTrouble.TheVariants.{Failed, Damaged}
 use Rattle.tmf_lines.specs.declared.output.GiveFault.{GiveFault}
 use Rattle.tmf_lines.specs.declared.output.GiveFault.TheVariants.{NoMemory, SinkFailed}
 use Rattle.tmf_edges.specs.Moves.{AppendsPart}
@@ -29,11 +27,6 @@ abbrev pub record_text : MonitorRecord → List ℕ
 record_text (Start epoch) = codes "start " ++ decimal epoch
 record_text (Commit t) = codes "commit " ++ transid_text t
 record_text (Abort t) = codes "abort " ++ transid_text t
-
--- what is wrong with a device as it is printed
-abbrev pub trouble_text : DeviceTrouble → List ℕ
-trouble_text Failed = codes "failed"
-trouble_text Damaged = codes "damaged"
 
 -- what was asked as it is printed
 abbrev pub asked_text : ActionKind → List ℕ
@@ -120,7 +113,6 @@ line_text (ListNotUp file) = codes "list " ++ file ++ codes " not up"
 line_text (ListFailed file device) = codes "list " ++ file ++ codes " failed " ++ device
 line_text (ListDamaged file device damage) = codes "list " ++ file ++ codes " damaged " ++ device ++ codes " " ++ damage_text damage
 line_text (NotScript line why) = codes "line " ++ decimal line ++ codes " " ++ why_text why
-line_text (Stopped device trouble) = codes "stopped " ++ device ++ codes " " ++ trouble_text trouble
 line_text Usage = codes "usage: tmf run [--dir DIR] or tmf bank N [--dir DIR]"
 
 -- lines with their ends

@@ -8,7 +8,7 @@ mod report;
 mod script;
 mod summary;
 
-pub use line::{ActionKind, DeviceName, DeviceTrouble, Line, PartName, add_line};
+pub use line::{ActionKind, DeviceName, Line, PartName, add_line};
 pub use output::{GiveFault, give_lines};
 pub use report::{
     device_name, file_name, format_failure, listing_lines, node_device_name, part_name,

@@ -7,13 +7,6 @@ use tmf_model::{Key, Name, Reason, Transid, Value};
 use tmf_script::Why;
 use trail_files::{Damage, DamageKind, MonitorRecord};
 
-/// What is wrong with a device.
-#[derive(Clone, Copy, Debug, PartialEq, Eq)]
-pub enum DeviceTrouble {
-    Failed,
-    Damaged,
-}
-
 /// What was asked of the node.
 #[derive(Clone, Copy, Debug, PartialEq, Eq)]
 pub enum ActionKind {
@@ -137,23 +130,7 @@ pub enum Line {
     ListDamaged(Name, Name, Damage),
     /// The text is no script, by this line of it, for this reason.
     NotScript(u32, Why),
-    /// A device that ends the script.
-    Stopped(Name, DeviceTrouble),
     Usage,
-}
-
-impl fmt::Display for DeviceTrouble {
-    ghost use Rattle.std.specs.Prelude.{Some};
-    ghost use Rattle.tmf_lines.specs.Line.{trouble_text};
-
-    ghost output = { λ trouble. Some (trouble_text trouble) };
-
-    fn fmt<W: fmt::Write>(&self, f: &mut fmt::Formatter<W>) -> fmt::Result {
-        match self {
-            DeviceTrouble::Failed => write!(f, "failed"),
-            DeviceTrouble::Damaged => write!(f, "damaged"),
-        }
-    }
 }
 
 impl fmt::Display for ActionKind {
@@ -320,7 +297,6 @@ impl fmt::Display for Line {
                 write!(f, "list {name} damaged {device} {file} {at} {kind}")
             }
             Line::NotScript(line, why) => write!(f, "line {line} {why}"),
-            Line::Stopped(device, trouble) => write!(f, "stopped {device} {trouble}"),
             Line::Usage => write!(f, "usage: tmf run [--dir DIR] or tmf bank N [--dir DIR]"),
         }
     }
