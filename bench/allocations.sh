@@ -1,8 +1,8 @@
 #!/bin/bash
 # Runs each of five scripts, or those that are given, once for each allocation that the program makes, with that one refused, and counts the statuses.
-# Of each run the output has to be a front of the whole output with status 2, or with status 6 and the line of a device that
-# could not grow behind it; or, with status 0, the whole output, or a front of it and the line of an action refused by such a device,
-# and what the script prints behind that.
+# Of each run the output has to be a front of the whole output with status 2; or, with status 0, the whole output, or a front of it and the line of an action refused
+# by a device that could not grow, of an attempt for which such a device failed, or of one that found no memory, and what the script prints behind that.
+# The threads of a run make their allocations in an order of their own, so the number of one may be that of another in the next run.
 . "$(dirname -- "${BASH_SOURCE[0]}")/measure.sh"
 
 if ! command -v gcc >/dev/null; then
@@ -44,10 +44,10 @@ is_front() {
     cmp -s -n "$(stat -c %s "$1")" "$1" "$2"
 }
 
-# Whether the first line that differs from the second file's is that of a refused action.
+# Whether the first line that differs from the second file's is that of a refused action, or of an attempt that such a device or want of memory has ended.
 is_refused_action() {
     awk 'NR == FNR { whole[NR] = $0; next }
-        $0 != whole[FNR] { exit !/^(format|recover|list [A-Z0-9]+) failed / }' "$2" "$1"
+        $0 != whole[FNR] { exit !/^((format|recover|run|list [A-Z0-9]+) failed |[0-9.]+ (memory$|failed |indoubt |hanging ))/ }' "$2" "$1"
 }
 
 # Whether the output of a run with this status is one of those allowed.
@@ -55,10 +55,6 @@ is_allowed() {
     case $1 in
     0) is_refused_action "$room/out" "$room/whole" ;;
     2) is_front "$room/out" "$room/whole" ;;
-    6)
-        [[ "$(tail -n 1 "$room/out")" == "stopped "*" failed" ]] &&
-            head -n -1 "$room/out" >"$room/front" && is_front "$room/front" "$room/whole"
-        ;;
     *) false ;;
     esac
 }

@@ -20,7 +20,7 @@ bank() {
 }
 per_second() { awk -v us="$1" -v commits="$2" 'BEGIN { printf "%d", commits * 1000000 / us }'; }
 
-# The script of one worker with 4,000 transfers, on threads by its control point.
+# The script of one worker with 4,000 transfers, behind a control point.
 alone() {
     awk 'BEGIN {
         print "trail AUX1\ntrail AUX2\nvolume $DATA1 AUX1\nvolume $DATA2 AUX2\nfile ACCT $DATA1 16\nfile TELLER $DATA2 4\nsteps 100000000\nformat\nrun\nworker\ncontrol $DATA1\nbegin"

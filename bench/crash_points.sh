@@ -43,7 +43,7 @@ pub fn points<R: Threads + Wait + Sync>(rt: &R, alloc: Global, device: usize, ch
         let fails = Fails { device, calls: &[n], choice, ..NO_FAILS };
         let ran = run(rt, alloc, &["run"], RUN, fails)?;
         let first = printed(alloc, &ran)?;
-        let was_whole = !first.contains("failed");
+        let was_whole = !first.contains("failed") && !first.contains("indoubt") && !first.contains("hanging");
         if first.starts_with("format failed") {
             lines.push_str(&format!(in alloc; "{choice} {device} {n} - -\n")?)?;
             continue;

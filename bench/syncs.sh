@@ -25,10 +25,10 @@ count() {
 # The first call builds the program, which is not to be counted.
 script 0 | "$root/tmf" run >/dev/null || exit 1
 declare -A formats=(
-    [fsync,fdatasync]="two a batch by the format of trails, a batch of audit and one of the monitor: 4"
+    [fsync,fdatasync]="two a batch by the format of trails, a batch of audit and one of the monitor: 4, and those of draws"
     [open,openat,creat]="0: each file of a trail stays open"
-    [write,pwrite64]="a batch and its gate, of audit and of the monitor: 4"
-    [read,pread64]="0: what a run asks for is in memory"
+    [write,pwrite64]="a batch and its gate, of audit and of the monitor: 4, and those of draws"
+    [read,pread64]="0: a block that was read stays in the cache"
 )
 for calls in fsync,fdatasync open,openat,creat write,pwrite64 read,pread64; do
     few=$(count "$calls" 10)

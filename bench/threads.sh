@@ -1,9 +1,9 @@
 #!/bin/bash
-# Measures runs on threads: commits a second in memory of one worker and of 16 over two trails, each worker on accounts of its own; and the syncs that a commit makes over a folder, of
+# Measures runs: commits a second in memory of one worker and of 16 over two trails, each worker on accounts of its own; and the syncs that a commit makes over a folder, of
 # 4 workers and of 16, each of whose transactions changes records of both trails.
 . "$(dirname -- "${BASH_SOURCE[0]}")/measure.sh"
 
-# A script of so many workers with so many transactions each, of which each changes one record of a volume (`one`) or of both (`both`). The control point makes it a run on threads also with one worker.
+# A script of so many workers with so many transactions each, of which each changes one record of a volume (`one`) or of both (`both`). The first worker has a control point behind its transactions.
 script() {
     awk -v workers="$1" -v transactions="$2" -v kind="$3" 'BEGIN {
         print "trail AUX1\ntrail AUX2\nvolume $DATA1 AUX1\nvolume $DATA2 AUX2\nfile ACCT $DATA1 16\nfile TILL $DATA2 16\nsteps 100000000\nformat\nrun"

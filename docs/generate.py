@@ -287,7 +287,7 @@ def crash_points_picture():
             picture.box(112 + 19 * call, y, 18, 16, fill)
             picture.word(121 + 19 * call, y + 12, "" if told == "-" else found, 10)
         y += 20
-    picture.word(12, y + 14, "the number: how many commits the recovery found. green: those that were printed; yellow: these and the one in flight; grey: the format was refused", 11, "start", "#555")
+    picture.word(12, y + 14, "the number: how many commits the recovery found. green: those that were printed; yellow: these and one more; grey: the format was refused", 11, "start", "#555")
     return picture.text()
 
 

@@ -1,7 +1,6 @@
 -- What the actions make of a node, from what the calls of the node's devices have answered.
-use Rattle.std.specs.Prelude.{length, max, All, Result, MatchResult, IfOk, IfErr, OnOk, IsOk, Ok, Err, Option, Some, None, slice_get}
-use Rattle.std.proofs.Common.{zero, suc, true, false, ◌≡◌, ◌≢◌, ◌⊎◌, ◌≤◌, ◌+◌, ◌++◌, ◌∷◌, [], ℕ, List, refl, sym, ap, subst, ◌∙◌, inl, inr, ⊎_elim, arith}
-use Rattle.std.proofs.lemmas.List.{length-append}
+use Rattle.std.specs.Prelude.{length, max, All, Result, IfOk, IfErr, Ok, Err, Option, Some, None, slice_get}
+use Rattle.std.proofs.Common.{zero, suc, true, false, ◌≡◌, ◌≢◌, ◌⊎◌, ◌≤◌, ◌++◌, ◌∷◌, [], ℕ, List, refl, sym, ap, subst, ◌∙◌, inl, inr, ⊎_elim, arith}
 use Rattle.disk_model.specs.Fuse.{cuts_of, device_of}
 use Rattle.disk_model.specs.Held.{Held}
 use Rattle.disk_model.specs.declared.fuse.Fuse.{Fuse}
@@ -42,24 +41,19 @@ use Rattle.volume_recovery.specs.VolumeListing.{TellsFileError, file_device}
 use Rattle.volume_recovery.specs.VolumeLoop.{IsUsed}
 use Rattle.volume_recovery.specs.VolumeNode.{AreLowered, RestsWithVolumes, StandsWithVolumes, volume_device}
 use Rattle.volume_recovery.proofs.VolumeLeaving.{may-whole}
-use Rattle.trail_replay.specs.declared.stop.Stop.{Stop}
-use Rattle.trail_replay.specs.declared.stop.Stop.TheVariants.{NoMemory, Failed, Damaged}
-use Rattle.one_worker.specs.declared.stop.RunError.{RunError}
-use Rattle.one_worker.specs.declared.stop.RunError.TheVariants as run
-use Rattle.trail_replay.specs.Stop.{IsUndamagedStop}
-use Rattle.one_worker.specs.RunLaw.{IsUp, TrailsRest}
+use Rattle.run_standing.specs.NodeUp.{IsNodeUp}
 use Rattle.tmf_lines.specs.declared.line.Line.{Line}
 use Rattle.tmf_lines.specs.Report.{file_name_of, listed_lines, recovered_lines}
 use Rattle.tmf_cli.specs.declared.node.NodeState.{NodeState}
 use Rattle.tmf_cli.specs.declared.node.Up.{Up}
-use Rattle.tmf_cli.specs.BetweenActions.{Knows, HasDone, HasBroken, AreMade, RestsUp, IfUp, IsEndOf, IsListLine, IsReady, OthersRestarted, SameOthers, end_of_run, node_of}
+use Rattle.tmf_cli.specs.BetweenActions.{Knows, HasDone, HasBroken, RestsUp, IfUp, IsListLine, IsReady, OthersRestarted, SameOthers, TrailsRest, node_of}
 use Rattle.tmf_cli.specs.Lost.{is_lost_volume, lost_flags, up_with}
 use Rattle.tmf_cli.specs.OutputLaw.{Node, Candidate, OneOf, MayStand, OneIsLeft, IsRecoveryLine, IsRefusedFor, ListsOf, StandsAs, after_stop, answer_of, down, formatted_node, stopped_node, with_start}
 use Rattle.tmf_cli.proofs.Bays.{held-is, held-same, images-same}
 use Rattle.tmf_cli.proofs.Dumps.{dumps-recovered}
 use Rattle.tmf_cli.proofs.Listings.{undamaged-listing, unlost-listing}
 use Rattle.tmf_cli.proofs.Losses.{kept-lost, label-is, lost-alike, lost-image, none-among, none-flagged, nothing, number-within, unless-some, unless-there}
-use Rattle.tmf_cli.proofs.Resting.{IsFine, IsUndamagedStand, LeavesReady, file-volume, stands-readable, up-ready, used-node}
+use Rattle.tmf_cli.proofs.Resting.{IsFine, IsUndamagedStand, LeavesReady, file-volume, stands-readable, up-ready}
 use Rattle.tmf_cli.proofs.Standings.{oneof-weaker, oneof-never, stands-stop}
 
 -- one text of the monitor trail spells one list, and one of an auxiliary trail one audit, and then it has no damage
@@ -69,45 +63,19 @@ pub record Texts : Type 0 where
   pub monitor_undamaged : (rules : Rules) (held : Held) (records : List MonitorRecord) (damage : Damage) → Spells monitor_format held records → ¬ IsDamagedAt monitor_format monitor_damage 32 held damage
   pub audit_undamaged : (rules : Rules) (held : Held) (records : List AuditRecord) (damage : Damage) → Spells (audit_format rules) held records → ¬ IsDamagedAt (audit_format rules) (audit_damage rules) 128 held damage
 
-none-some : false ≡ true → ⊥
-none-some e = absurd (cc)
-
 -- what was found is there, and so is what it is
 pub some-found : {T : Type 0} (found is : Option T) → found ≡ is → found ≢ None → is ≢ None
 some-found found is same some none = some (same ∙ none)
 
--- an action that had no lines to print prints none
-pub none-made : (stop : Stop) → AreMade stop [] []
-none-made NoMemory = inl refl
-none-made (Failed device) = refl
-none-made (Damaged device) = refl
+-- what is so of what a call has given gives what is asked of it
+pub ok-so : {T E : Type 0} (P R : T → Type 0) (r : Result T E) → IfOk r P → ((x : T) → P x → R x) → IfOk r R
+ok-so P R (Ok x) is so = so x is
+ok-so P R (Err e) is so = tt
 
-module _ {T : Type 0} where
-  -- what is said of the end of a run is said of how it ends the script
-  pub ok-ended : (ran : Result T RunError) (ended : Result T Stop) (P : Type 0) → ended ≡ end_of_run ran → OnOk ran P → OnOk ended P
-  ok-ended (Ok x) ended P is holds = subst (λ r. OnOk r P) (sym is) holds
-  ok-ended (Err (run.Stopped stop)) ended P is holds = subst (λ r. OnOk r P) (sym is) tt
-  ok-ended (Err (run.Spent disc)) ended P is holds = subst (λ r. OnOk r P) (sym is) tt
-  ok-ended (Err (run.Crowded file)) ended P is holds = subst (λ r. OnOk r P) (sym is) tt
-  ok-ended (Err (run.Lost volume)) ended P is holds = subst (λ r. OnOk r P) (sym is) tt
-
-  -- a device that ended the script ended the run
-  pub failed-ended : (ran : Result T RunError) (ended : Result T Stop) (device : ℕ) → ended ≡ end_of_run ran → ended ≡ Err (Failed device) → ran ≡ Err (run.Stopped (Failed device))
-  failed-ended (Ok x) ended device is failed = let never : ◌≡◌ {A = Result T Stop} (Ok x) (Err (Failed device)) = sym is ∙ failed in absurd (cc)
-  failed-ended (Err (run.Stopped stop)) ended device is failed = let same : ◌≡◌ {A = Result T Stop} (Err stop) (Err (Failed device)) = sym is ∙ failed in let one : stop ≡ Failed device = cc in ap (λ s. Err (run.Stopped s)) one
-  failed-ended (Err (run.Spent disc)) ended device is failed = let never : ◌≡◌ {A = Result T Stop} (Err NoMemory) (Err (Failed device)) = sym is ∙ failed in absurd (cc)
-  failed-ended (Err (run.Crowded file)) ended device is failed = let never : ◌≡◌ {A = Result T Stop} (Err NoMemory) (Err (Failed device)) = sym is ∙ failed in absurd (cc)
-  failed-ended (Err (run.Lost volume)) ended device is failed = let never : ◌≡◌ {A = Result T Stop} (Err NoMemory) (Err (Failed device)) = sym is ∙ failed in absurd (cc)
-
-module _ {T E : Type 0} (P R : T → Type 0) (Q S : E → Type 0) where
-  -- what holds of each answer of a call gives what is asked of it
-  pub if-ok : (r : Result T E) → MatchResult r P Q → ((x : T) → P x → R x) → IfOk r R
-  if-ok (Ok x) is so = so x is
-  if-ok (Err e) is so = tt
-
-  pub if-err : (r : Result T E) → MatchResult r P Q → ((e : E) → Q e → S e) → IfErr r S
-  if-err (Ok x) is so = tt
-  if-err (Err e) is so = so e is
+-- what is so anyway is so of a refusal
+pub err-so : {T E : Type 0} (S : E → Type 0) (r : Result T E) → ((e : E) → S e) → IfErr r S
+err-so S (Ok x) so = tt
+err-so S (Err e) so = so e
 
 -- a device that is there holds what the number gives
 pub there-held : {D : Type 0} (held : D → Held) (devices : List (Fuse D)) (P : Held → Type 0) (n : ℕ) → DeviceAt (λ d. P (held d)) devices n → P (held_at held devices n)
@@ -135,9 +103,7 @@ module _ {D : Type 0} (held : D → Held) (config : Config) (old new : List (Fus
       record {
         rests = rests;
         lowered = lowered;
-        front = [];
-        begun = refl;
-        place = refl;
+        begun = ([], refl);
         unused = λ trail audit some le spelled. subst (All (λ r. r.tx.epoch ≢ 1)) (one (rules_of config trail) (held_at held new trail) [] audit (empty trail some le).spells spelled) (λ k d lt. absurd (omega (arith, lt)));
       },
       lost-alike config (held_at held new) nothing (λ v line is. labelled v line is) ∙ none-among config,
@@ -170,15 +136,13 @@ module _ {D : Type 0} (held : D → Held) (config : Config) (old new : List (Fus
   module _ (texts : Texts) (images : ℕ → Held) (recovered : Recovered) (answers : RecoversWithVolumes held config images (Ok recovered) new) (ready : LeavesReady held config images new recovered) where
     -- the node is up with the standing that its images have
     pub up-with : (map : RecordMap) → StandsWithVolumes config images recovered.records map
-        → IsUp config (held_at held new) (recovered.records ++ Start recovered.epoch ∷ []) map recovered.epoch (length recovered.records + 2)
+        → IsNodeUp config (held_at held new) (recovered.records ++ Start recovered.epoch ∷ []) map recovered.epoch
     up-with map stands =
         let started = ready.rests map stands in
         record {
           rests = started.rests;
           lowered = started.lowered;
-          front = recovered.records;
-          begun = refl;
-          place = let more = length-append recovered.records (Start recovered.epoch ∷ []) in omega (arith, more);
+          begun = (recovered.records, refl);
           unused = started.unused;
         }
 
@@ -199,7 +163,7 @@ module _ {D : Type 0} (held : D → Held) (config : Config) (old new : List (Fus
     -- behind a whole recovery, the node is up, and what may stand is known as far as it was known before
     pub whole : (known : Option (List Candidate)) → AreImages held old images → MayStand held config old known
         → (candidates : Option (List Candidate)) × OneIsLeft known recovered.records (lost_among images (length config.volumes)) candidates × MayStand held config new candidates
-        × RestsUp held config new (record { epoch = recovered.epoch; place = length recovered.records + 2; lost = lost_flags recovered.lost }) candidates
+        × RestsUp held config new (record { epoch = recovered.epoch; lost = lost_flags recovered.lost }) candidates
     whole None left stands = (None, refl, tt, ready.ready)
     whole (Some standings) left stands =
         let found = goes-on standings (stands images left) in
@@ -267,20 +231,10 @@ untouched-stopped held config devices (Some standings) stands = λ later are.
 
 module _ {D : Type 0} (held : D → Held) (faults : D → ℕ) (config : Config) (state : NodeState) (old new : List (Fuse D)) where
   -- a script that ends for want of memory in a recovery
-  pub broken-recovery : {T : Type 0} (kill : Option ℕ) (candidates : Option (List Candidate)) (r : Result T Stop) → IfErr r (λ stop. stop ≡ NoMemory) → MayStand held config new (after_stop candidates)
-      → IfErr r (λ stop. HasBroken held faults config (RecoverAction kill) (node_of state candidates) old [] stop new)
-  broken-recovery kill candidates (Ok x) memory stands = tt
-  broken-recovery kill candidates (Err stop) memory stands = record {
-    after = stopped_node (node_of state candidates);
-    due = [];
-    why = run.Stopped NoMemory;
-    ends = subst (λ s. IsEndOf s (run.Stopped NoMemory)) (sym memory) tt;
-    breaks = (refl, refl, refl);
-    made = none-made stop;
-    stands = stands;
-    run = inl memory;
-    undamaged = subst IsUndamagedStop (sym memory) tt;
-  }
+  pub broken-recovery : {T E : Type 0} (kill : Option ℕ) (candidates : Option (List Candidate)) (r : Result T E) → MayStand held config new (after_stop candidates)
+      → IfErr r (λ e. HasBroken held faults config (RecoverAction kill) (node_of state candidates) old new)
+  broken-recovery kill candidates (Ok x) stands = tt
+  broken-recovery kill candidates (Err e) stands = record { after = stopped_node (node_of state candidates); due = []; breaks = (refl, refl); stands = stands }
 
 -- devices that are none of the configuration's, which a recovery has restarted
 pub others-once : {D : Type 0} (config : Config) (restarts : Fuse D → Fuse D → Type 0) (old new : List (Fuse D))
@@ -305,7 +259,7 @@ unknown-first held config devices undamaged images (Some standings) device damag
 refused-for : {D : Type 0} (held : D → Held) (faults : D → ℕ) (config : Config) (node : Node) (old new : List (Fuse D)) (images : ℕ → Held) (error : RecoverError) (line : Line)
     → ((device : ℕ) (damage : Damage) → IsFirstFound config images device damage → node.candidates ≡ None) → IsRefusalWithVolumes config images error → IsRecoveryLine config error line
     → ((number : ℕ) → error ≡ recovery.Failed number → IsUsed config number × RoseAt faults old new number) → IsRefusedFor faults config node old new error
-refused-for held faults config node old new images (recovery.Failed device) line unknown refusal is cause = let told = cause device refl in (used-node config device told.0, told.1)
+refused-for held faults config node old new images (recovery.Failed device) line unknown refusal is cause = cause device refl
 refused-for held faults config node old new images (recovery.Damaged device damage) line unknown refusal is cause = unknown device damage refusal
 refused-for held faults config node old new images recovery.EpochsSpent line unknown refusal is cause = tt
 refused-for held faults config node old new images recovery.NoMemory line unknown refusal is cause = absurd is
@@ -314,7 +268,7 @@ module _ {D : Type 0} (held : D → Held) (faults : D → ℕ) (config : Config)
   -- a whole recovery
   pub recovered-done : IsValidConfig config → NoneFalls faults old new → (texts : Texts) (images : ℕ → Held) (recovered : Recovered) (lines : List Line) → recovered.epoch ≤ 4294967295 → AreImages held old images → RecoversWithVolumes held config images (Ok recovered) new
       → LeavesReady held config images new recovered → Knows held config (node_of state candidates) old → lines ≡ recovered_lines config state.printed recovered.records recovered.lost recovered.epoch
-      → after ≡ record { up = Some (record { epoch = recovered.epoch; place = length recovered.records + 2; lost = lost_flags recovered.lost }); formatted = state.formatted; printed = max state.printed (length recovered.records) }
+      → after ≡ record { up = Some (record { epoch = recovered.epoch; lost = lost_flags recovered.lost }); formatted = state.formatted; printed = max state.printed (length recovered.records) }
       → HasDone held faults config (RecoverAction kill) (node_of state candidates) old lines after new
   recovered-done valid falls texts images recovered lines small left answers ready knows printed is =
       let has = answers.ok in
@@ -333,8 +287,8 @@ module _ {D : Type 0} (held : D → Held) (faults : D → ℕ) (config : Config)
             dumps = dumps-recovered held config faults old new valid falls images left answers.others;
             printed = printed ∙ ap (λ (r : Recovered). recovered_lines config state.printed recovered.records r.lost r.epoch) answer;
             stands = whole_may.1;
-            state = is ∙ ap (λ (r : Recovered). record { up = Some (record { epoch = r.epoch; place = length recovered.records + 2; lost = lost_flags r.lost }); formatted = state.formatted; printed = max state.printed (length recovered.records) }) answer
-                ∙ ap (λ b. record { up = Some (record { epoch = next_epoch recovered.records; place = length recovered.records + 2; lost = lost_flags (lost_among images (length config.volumes)) }); formatted = b; printed = max state.printed (length recovered.records) }) formatted;
+            state = is ∙ ap (λ (r : Recovered). record { up = Some (record { epoch = r.epoch; lost = lost_flags r.lost }); formatted = state.formatted; printed = max state.printed (length recovered.records) }) answer
+                ∙ ap (λ b. record { up = Some (record { epoch = next_epoch recovered.records; lost = lost_flags (lost_among images (length config.volumes)) }); formatted = b; printed = max state.printed (length recovered.records) }) formatted;
           },
         ));
         knows = subst (λ s. Knows held config (node_of s whole_may.0) new) (sym is) (record { stands = whole_may.2; up = whole_may.3 });
@@ -372,7 +326,7 @@ module _ {D : Type 0} (held : D → Held) (config : Config) (old new : List (Fus
   rests-same up None rests = subst (λ h. IsReady config h up) (sym (held-same held old new same)) rests
   rests-same up (Some standings) (ready, s, is, on, lost) =
       let held_is = sym (held-same held old new same) in
-      (subst (λ h. IsReady config h up) held_is ready, s, is, subst (λ h. IsUp config h s.list s.map up.epoch up.place) held_is on, subst (λ h. lost_among h (length config.volumes) ≡ s.lost) held_is lost)
+      (subst (λ h. IsReady config h up) held_is ready, s, is, subst (λ h. IsNodeUp config h s.list s.map up.epoch) held_is on, subst (λ h. lost_among h (length config.volumes) ≡ s.lost) held_is lost)
 
   up-same : (up : Option Up) (candidates : Option (List Candidate)) → IfUp held config old up candidates → IfUp held config new up candidates
   up-same None candidates is = tt
@@ -402,19 +356,13 @@ module _ {D : Type 0} (held : D → Held) (faults : D → ℕ) (config : Config)
 
 module _ {D : Type 0} (held : D → Held) (faults : D → ℕ) (config : Config) (file : ℕ) (state : NodeState) (candidates : Option (List Candidate)) (old new : List (Fuse D)) (same : HoldSame held old new) where
   -- a script that ends for want of memory in a listing
-  pub broken-listing : {T : Type 0} (r : Result T Stop) → IfErr r (λ stop. stop ≡ NoMemory) → Knows held config (node_of state candidates) old
-      → IfErr r (λ stop. HasBroken held faults config (ListAction file) (node_of state candidates) old [] stop new)
-  broken-listing (Ok x) memory knows = tt
-  broken-listing (Err stop) memory knows = record {
+  pub broken-listing : {T E : Type 0} (r : Result T E) → Knows held config (node_of state candidates) old → IfErr r (λ e. HasBroken held faults config (ListAction file) (node_of state candidates) old new)
+  broken-listing (Ok x) knows = tt
+  broken-listing (Err e) knows = record {
     after = node_of state candidates;
     due = [];
-    why = run.Stopped NoMemory;
-    ends = subst (λ s. IsEndOf s (run.Stopped NoMemory)) (sym memory) tt;
-    breaks = (refl, refl, refl);
-    made = none-made stop;
+    breaks = (refl, refl);
     stands = (knows-same held config old new same (node_of state candidates) knows).stands;
-    run = inl memory;
-    undamaged = subst IsUndamagedStop (sym memory) tt;
   }
 
   module _ (valid : IsValidConfig config) (declared : IsDeclared config.files file) (up : up_with config file state ≢ None) (knows : Knows held config (node_of state candidates) old) where
@@ -453,24 +401,3 @@ module _ {D : Type 0} (held : D → Held) (faults : D → ℕ) (config : Config)
     unlisted-done (listing.Damaged device damage) line lines is cause told one = absurd (undamaged-listing config file (held_at held old) valid declared ready.readable damage told.1)
     unlisted-done listing.Lost line lines is cause told one = absurd (unlost-listing config file (held_at held old) found.0.lost valid declared ready.lost found.2 told)
     unlisted-done listing.NoMemory line lines is cause told one = absurd is
-
-module _ {U V : Type 0} (items : V → List Line) (lines old : List Line) where
-  abbrev pub IsPut : Result V Stop → Result U Stop → Type 0
-  IsPut made result = MatchResult made (λ new. (lines ≡ items new) × IsOk result) (λ stop. (lines ≡ old) × (result ≡ Err stop))
-
-  put-ok : (H : List Line → Type 0) (result : Result U Stop) → H lines → OnOk result (H lines)
-  put-ok H (Ok x) has = has
-  put-ok H (Err e) has = tt
-
-  -- lines that were put in the place of others are those that were made
-  pub put-done : (H : List Line → Type 0) (made : Result V Stop) (result : Result U Stop) → IsPut made result → IfOk made (λ new. H (items new)) → OnOk result (H lines)
-  put-done H (Ok new) result put has = put-ok H result (subst H (sym put.0) has)
-  put-done H (Err stop) result put has = subst (λ r. OnOk r (H lines)) (sym put.1) tt
-
-  put-none : (B : Stop → Type 0) (result : Result U Stop) → IsOk result → IfErr result B
-  put-none B (Ok x) ok = tt
-  put-none B (Err e) ok = absurd (none-some ok)
-
-  pub put-broken : (B : List Line → Stop → Type 0) (made : Result V Stop) (result : Result U Stop) → IsPut made result → old ≡ [] → IfErr made (B []) → IfErr result (B lines)
-  put-broken B (Ok new) result put none broken = put-none (B lines) result put.1
-  put-broken B (Err stop) result put none broken = subst (λ r. IfErr r (B lines)) (sym put.1) (subst (λ ls. B ls stop) (sym none ∙ sym put.0) broken)

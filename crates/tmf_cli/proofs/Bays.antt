@@ -1,7 +1,7 @@
 -- The devices of a bay before and after calls.
 use Rattle.std.specs.Prelude.{slice_get, Option, Some, None, IsTrue}
 use Rattle.std.specs.Option.{option_map_or}
-use Rattle.std.proofs.Common.{◌≡◌, ℕ, Bool, List, refl, sym, ap, subst, ◌∙◌}
+use Rattle.std.proofs.Common.{◌≡◌, ℕ, Bool, List, refl, sym, ap, subst}
 use Rattle.disk_model.specs.Fuse.{device_of}
 use Rattle.disk_model.specs.Held.{Held, Leaves}
 use Rattle.disk_model.specs.declared.fuse.Fuse.{Fuse}
@@ -21,19 +21,7 @@ module _ {D : Type 0} (P : D → D → Type 0) where
   each-old (Some before) None fuse each is = absurd each
   each-old (Some before) (Some after) fuse each is = let same : before ≡ fuse = cc in (after, refl, subst (λ f. P (device_of f) (device_of after)) same each)
 
--- one after the other
-pub each-then : {D : Type 0} (P Q R : D → D → Type 0) → ((a b c : D) → P a b → Q b c → R a c) → (old mid new : Option (Fuse D)) → EachAs P old mid → EachAs Q mid new → EachAs R old new
-each-then P Q R so None None None first second = tt
-each-then P Q R so None None (Some c) first second = absurd second
-each-then P Q R so None (Some b) new first second = absurd first
-each-then P Q R so (Some a) None new first second = absurd first
-each-then P Q R so (Some a) (Some b) None first second = absurd second
-each-then P Q R so (Some a) (Some b) (Some c) first second = so (device_of a) (device_of b) (device_of c) first second
-
 module _ {D : Type 0} (tells : D → Bool) where
-  pub keep-then : (old mid new : List (Fuse D)) → KeepTelling tells old mid → KeepTelling tells mid new → KeepTelling tells old new
-  keep-then old mid new first second = λ n. each-then (λ a b. tells b ≡ tells a) (λ a b. tells b ≡ tells a) (λ a b. tells b ≡ tells a) (λ a b c x y. y ∙ x) (slice_get old n) (slice_get mid n) (slice_get new n) (first n) (second n)
-
   pub tell-on : (old new : List (Fuse D)) → KeepTelling tells old new → DevicesTell tells old → DevicesTell tells new
   tell-on old new keep tell = λ n fuse is.
       let before = each-new (λ a b. tells b ≡ tells a) (slice_get old n) (slice_get new n) fuse (keep n) is in
@@ -59,7 +47,3 @@ module _ {D : Type 0} (held : D → Held) where
   images-same old new images same are = λ n fuse is.
       let after = each-old (λ a b. held b ≡ held a) (slice_get old n) (slice_get new n) fuse (same n) is in
       subst (λ h. Leaves h (images n)) after.2 (are n after.0 after.1)
-
-  -- an image of a device that holds what it held is one of what it held before
-  pub held-image : (old new : List (Fuse D)) (n : ℕ) → held_at held new n ≡ held_at held old n → (fuse : Fuse D) → slice_get new n ≡ Some fuse → (images : ℕ → Held) → AreImages held new images → Leaves (held_at held old n) (images n)
-  held-image old new n same fuse is images are = subst (λ h. Leaves h (images n)) (held-is new n fuse is ∙ same) (are n fuse is)

@@ -1,7 +1,7 @@
 -- What a call has made of its text, its source, its sink and its devices, from how its script was read and carried out.
 use Rattle.std.specs.Prelude.{take, true}
-use Rattle.std.proofs.Common.{◌≡◌, ◌≢◌, ◌⊎◌, ℕ, List, IsTrue, refl, sym, ap, subst, inl, inr, ⊎_elim, arith}
-use Rattle.disk_model.specs.Devices.{DevicesTell, FuseRestarts}
+use Rattle.std.proofs.Common.{◌≡◌, ◌≢◌, ◌⊎◌, List, IsTrue, refl, ap, subst, inl, inr, ⊎_elim, arith}
+use Rattle.disk_model.specs.Devices.{FuseRestarts}
 use Rattle.disk_model.specs.Held.{Rose}
 use Rattle.disk_model.specs.declared.disk.Disk as disk
 use Rattle.disk_model.specs.declared.fuse.Fuse.{Fuse}
@@ -15,22 +15,21 @@ use Rattle.tmf_cli.specs.ActionGiven.{KeepsSink}
 use Rattle.tmf_cli.specs.BetweenActions.{LeavesBay, OthersRestarted}
 use Rattle.tmf_cli.specs.Call.{AnswersNoScript, AnswersScript, AnswersText, HasStatus, KeepsBay, KeepsOn}
 use Rattle.tmf_cli.specs.Countdown.{IsOff, NoneKilled, OnceSwitched}
-use Rattle.tmf_cli.specs.OutputLaw.{HasFailed}
 use Rattle.tmf_cli.specs.ReadScript.{KeepsSource, ReadsNone, ReadsScript}
 use Rattle.tmf_cli.specs.Status.{code_of}
-use Rattle.tmf_cli.specs.Top.{EndsStopped, IsStatusCaused, IsUnreadCaused, read_limit}
+use Rattle.tmf_cli.specs.Top.{IsStatusCaused, IsUnreadCaused, read_limit}
 use Rattle.tmf_cli.proofs.Countdowns.{once-so, switched-cuts, switches-same}
 use Rattle.tmf_cli.proofs.Endings.{unread-unplayed}
-use Rattle.tmf_cli.proofs.Openings.{bay-off, bay-uncut, none-rose}
+use Rattle.tmf_cli.proofs.Openings.{bay-off, bay-uncut}
 use Rattle.tmf_cli.proofs.Playing.{others-none, rose-sink, sink-then}
-use Rattle.tmf_cli.proofs.Statuses.{code-most, code-refused, code-sink, code-source, code-stopped, code-usage, none-failed, none-played, played-from}
+use Rattle.tmf_cli.proofs.Statuses.{code-most, code-refused, code-sink, code-source, code-usage, none-failed, none-played, played-from}
 
 -- WHERE NO SCRIPT WAS READ
 
 module _ {S K D : Type 0} (sources : source.Ghosts S) (sinks : sink.Ghosts K) (disks : disk.Ghosts D) (how : Status) (source source_now : S) (sink sink_now : K) (devices : List (Fuse D))
     (read : ReadsNone sources sinks how source source_now sink sink_now) where
   -- nothing was carried out
-  unread-other : (how ≡ status.Done) ⊎ (how ≡ status.SinkFailed) ⊎ (how ≡ status.Stopped) → ⊥
+  unread-other : (how ≡ status.Done) ⊎ (how ≡ status.SinkFailed) → ⊥
   unread-other played = unread-unplayed how (sources.faults source) (sources.faults source_now) read.cause played
 
   unread-asked : how ≢ status.Usage
@@ -47,22 +46,19 @@ module _ {S K D : Type 0} (sources : source.Ghosts S) (sinks : sink.Ghosts K) (d
   module _ (tells : IsTrue (sources.tells source)) (script : Script) (is : IsScriptOf script (take read_limit (sources.rest source))) where
     unread-lacked : ¬ Rose (sources.faults source) (sources.faults source_now) → (code_of how ≡ 0) ⊎ (code_of how ≡ 2)
     unread-lacked no_source =
-        none-failed how unread-asked (λ e. no_source (unread-source e)) (λ e. unread-other (inr (inl e))) (read.unrefused tells script is) (λ e. unread-other (inr (inr e)))
+        none-failed how unread-asked (λ e. no_source (unread-source e)) (λ e. unread-other (inr e)) (read.unrefused tells script is)
 
     pub unread-quiet : IsTrue (sinks.tells sink) → sinks.given sink_now ≡ sinks.given sink
     unread-quiet told = read.silent told (read.unrefused tells script is)
 
     unread-script : AnswersScript sources sinks disks true script (code_of how) source source_now sink sink_now devices devices
     unread-script = record {
-      complete = λ words tell no_source no_sink no_device. unread-lacked no_source;
+      complete = λ words no_source no_sink. unread-lacked no_source;
       unrefused = λ e. read.unrefused tells script is (code-refused how e);
-      stopped = λ tell e. absurd (unread-other (inr (inr (code-stopped how e))));
-      unkilled = λ words tell no_source no_sink none fails. unread-lacked no_source;
       others = inl (others-none script.config (FuseRestarts disks) devices);
       uncut = λ none. switched-cuts devices devices (switches-same devices);
       off = inl refl;
       played_off = λ e. absurd (unread-other (played-from how e));
-      stop_line = λ told e. absurd (unread-other (inr (inr (code-stopped how e))));
     }
 
   -- or that of none
@@ -82,7 +78,7 @@ module _ {S K D : Type 0} (sources : source.Ghosts S) (sinks : sink.Ghosts K) (d
     usage = λ e. absurd (unread-asked (code-usage how e));
     source_failed = λ e. unread-source (code-source how e);
     silent = λ told e. unread-silent told (λ five. omega (arith, e, five));
-    sink_failed = λ e. absurd (unread-other (inr (inl (code-sink how e))));
+    sink_failed = λ e. absurd (unread-other (inr (code-sink how e)));
     refused = λ tells told e. read.refused tells told (code-refused how e);
     played = λ tells e. absurd (unread-other (played-from how e));
     untouched = λ e. refl;
@@ -119,36 +115,29 @@ module _ {S K D : Type 0} (sources : source.Ghosts S) (sinks : sink.Ghosts K) (d
   caused-sink : how ≡ status.SinkFailed → Rose (sinks.faults sink) (sinks.faults sink_now)
   caused-sink e = rose-sink (sinks.faults sink) (sinks.faults sink_read) (sinks.faults sink_now) first.later more.later (subst (λ s. IsStatusCaused s (sinks.faults sink_read) (sinks.faults sink_now)) e cause)
 
-  -- where the sink did not fail, and no device stopped it, it was carried out, or memory lacked
-  caused-lacked : ¬ Rose (sinks.faults sink) (sinks.faults sink_now) → how ≢ status.Stopped → (code_of how ≡ 0) ⊎ (code_of how ≡ 2)
-  caused-lacked no_sink no_device = none-failed how caused-asked caused-source (λ e. no_sink (caused-sink e)) caused-unrefused no_device
+  -- where the sink did not fail, it was carried out, or memory lacked
+  caused-lacked : ¬ Rose (sinks.faults sink) (sinks.faults sink_now) → (code_of how ≡ 0) ⊎ (code_of how ≡ 2)
+  caused-lacked no_sink = none-failed how caused-asked caused-source (λ e. no_sink (caused-sink e)) caused-unrefused
 
   off : IsOff new
   off = bay-off disks script.config (NoneKilled script.actions) old new leaves
 
-  module _ (stopped : DevicesTell disks.tells old → how ≡ status.Stopped → (device : ℕ) × HasFailed disks.faults script.config old new device)
-      (ends : IsTrue (sinks.tells sink_read) → how ≡ status.Stopped → EndsStopped script.config (HasFailed disks.faults script.config old new) (sinks.given sink_read) (sinks.given sink_now)) where
-    played-script : AnswersScript sources sinks disks true script (code_of how) source source_now sink sink_now old new
-    played-script = record {
-      complete = λ words tell no_source no_sink no_device. caused-lacked no_sink (λ e. let failed = stopped tell e in no_device failed.0 failed.1.1);
-      unrefused = λ e. caused-unrefused (code-refused how e);
-      stopped = λ tell e. stopped tell (code-stopped how e);
-      unkilled = λ words tell no_source no_sink none fails. caused-lacked no_sink (λ e.
-          let failed = stopped tell e in none-rose disks.faults old new (bay-uncut disks script.config (NoneKilled script.actions) old new leaves none) fails failed.0 failed.1.1);
-      others = once-so (λ opened. LeavesBay disks script.config (NoneKilled script.actions) opened new) (λ opened. OthersRestarted script.config (FuseRestarts disks) opened new) old
-          (λ opened switched all. all.others) leaves;
-      uncut = bay-uncut disks script.config (NoneKilled script.actions) old new leaves;
-      off = inr off;
-      played_off = λ e. off;
-      stop_line = λ told e. subst (λ before. EndsStopped script.config (HasFailed disks.faults script.config old new) before (sinks.given sink_now)) (read.silent told)
-          (ends (subst IsTrue (sym first.tells) told) (code-stopped how e));
-    }
+  played-script : AnswersScript sources sinks disks true script (code_of how) source source_now sink sink_now old new
+  played-script = record {
+    complete = λ words no_source no_sink. caused-lacked no_sink;
+    unrefused = λ e. caused-unrefused (code-refused how e);
+    others = once-so (λ opened. LeavesBay disks script.config (NoneKilled script.actions) opened new) (λ opened. OthersRestarted script.config (FuseRestarts disks) opened new) old
+        (λ opened switched all. all.others) leaves;
+    uncut = bay-uncut disks script.config (NoneKilled script.actions) old new leaves;
+    off = inr off;
+    played_off = λ e. off;
+  }
 
-    pub played-text : IsTrue (sources.tells source) → AnswersText sources sinks disks true (code_of how) source source_now sink sink_now old new
-    played-text tells = record {
-      script = λ other is. subst (λ s. AnswersScript sources sinks disks true s (code_of how) source source_now sink sink_now old new) (read.only tells other is) played-script;
-      none = λ none. absurd (none (script, read.of_text tells));
-    }
+  pub played-text : IsTrue (sources.tells source) → AnswersText sources sinks disks true (code_of how) source source_now sink sink_now old new
+  played-text tells = record {
+    script = λ other is. subst (λ s. AnswersScript sources sinks disks true s (code_of how) source source_now sink sink_now old new) (read.only tells other is) played-script;
+    none = λ none. absurd (none (script, read.of_text tells));
+  }
 
   pub played-status : HasStatus sources sinks true (code_of how) source source_now sink sink_now old new
   played-status = record {

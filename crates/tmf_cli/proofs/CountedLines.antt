@@ -1,40 +1,35 @@
 -- The lines of each action, and of a call, name no device more often than it has failed.
 use Rattle.std.specs.Prelude.{if◌then◌else◌, map, nat_le, slice_get}
 use Rattle.std.specs.List.{AllByRecursion, cons_option, filter_map}
-use Rattle.std.proofs.Common.{true, false, ◌≡◌, ◌⊎◌, ◌≤◌, ◌<◌, ◌+◌, ◌-◌, ◌++◌, ◌∷◌, [], ℕ, Bool, List, length, Option, Some, None, refl, sym, ap, subst, ◌∙◌, inl, inr, ⊎_elim, arith}
+use Rattle.std.proofs.Common.{true, false, ◌≡◌, ◌≤◌, ◌<◌, ◌+◌, ◌-◌, ◌++◌, ◌∷◌, [], ℕ, Bool, List, length, Option, Some, None, refl, sym, ap, subst, ◌∙◌, inl, inr, ⊎_elim, arith}
 use Rattle.std.proofs.lemmas.Bool.Decides.{leb_tells}
-use Rattle.std.proofs.lemmas.List.{append-nil}
 use Rattle.std.proofs.lemmas.List.Elements.{filter_map-append, recursion_from_All}
 use Rattle.disk_model.specs.Devices.{NoneFalls, RoseAt}
 use Rattle.disk_model.specs.Fuse.{fuse_faults}
 use Rattle.disk_model.specs.Held.{Held}
 use Rattle.disk_model.specs.declared.disk.Disk as disk
 use Rattle.disk_model.specs.declared.fuse.Fuse.{Fuse}
-use Rattle.one_worker.specs.RunLaw.{IsOfNode}
-use Rattle.one_worker.specs.declared.stop.RunError.{RunError}
-use Rattle.one_worker.specs.declared.stop.RunError.TheVariants as run
 use Rattle.rollforward.specs.declared.errors.RollError.{RollError}
 use Rattle.rollforward.specs.declared.errors.RollError.TheVariants as roll
-use Rattle.run_outcomes.specs.Devices.{devices, fuse_kind, part_of_device}
+use Rattle.run_outcomes.specs.Devices.{fuse_kind, part_of_device}
 use Rattle.run_outcomes.specs.Ends.{times_failed}
 use Rattle.run_outcomes.specs.Run.{HasRun, RoseBy, account_of}
 use Rattle.run_outcomes.specs.Told.{Account}
 use Rattle.run_outcomes.specs.declared.outcome.Hang.TheVariants as hang
-use Rattle.run_outcomes.specs.declared.outcome.Outcome.{Outcome as RunOutcome}
+use Rattle.run_outcomes.specs.declared.outcome.Outcome.{Outcome}
 use Rattle.run_outcomes.specs.declared.outcome.PhaseError.{PhaseError}
 use Rattle.run_outcomes.specs.declared.outcome.PhaseError.TheVariants as phase_error
 use Rattle.run_outcomes.specs.declared.outcome.Told.{Told}
 use Rattle.run_outcomes.specs.declared.outcome.Told.TheVariants as told
 use Rattle.run_standing.specs.Telling.{telling}
-use Rattle.trail_replay.specs.declared.stop.Stop.TheVariants as stop
 use Rattle.volume_recovery.specs.declared.errors.RecoverError.{RecoverError}
 use Rattle.volume_recovery.specs.declared.errors.RecoverError.TheVariants as recovery
+use Rattle.volume_recovery.specs.VolumeLoop.{IsUsed}
 use Rattle.volume_recovery.specs.VolumeNode.{volume_device}
 use Rattle.volume_restore.specs.Bases.{volume_on}
 use Rattle.tmf_lines.specs.declared.line.ActionKind.TheVariants as asked
-use Rattle.tmf_lines.specs.declared.line.DeviceTrouble.TheVariants as trouble
 use Rattle.tmf_lines.specs.declared.line.Line.{Line}
-use Rattle.tmf_lines.specs.declared.line.Line.TheVariants.{AttemptFailed, DumpsFailed, Failed, Hanging, InDoubt, ListFailed, LoseFailed, RollFailed, RunFailed, Stopped}
+use Rattle.tmf_lines.specs.declared.line.Line.TheVariants.{AttemptFailed, DumpsFailed, Failed, Hanging, InDoubt, ListFailed, LoseFailed, RollFailed, RunFailed}
 use Rattle.tmf_lines.specs.declared.line.PartName.{PartName}
 use Rattle.tmf_lines.specs.declared.line.PartName.TheVariants.{Device, Worker}
 use Rattle.tmf_lines.specs.Report.{device_name, file_name_of, format_failure, node_device_name, part_name, spent_line, trail_name, volume_name}
@@ -47,19 +42,18 @@ use Rattle.tmf_model.specs.declared.script.Phase.{Phase}
 use Rattle.tmf_model.specs.declared.script.Script.{Script}
 use Rattle.tmf_model.specs.declared.transid.Transid.{Transid}
 use Rattle.tmf_cli.specs.Counts.{AreCounted, CountsFailures, CountsLaw, failed_of, plain_name, times_named}
-use Rattle.tmf_cli.specs.Ending.{EndsIn, StopsRun, opening}
+use Rattle.tmf_cli.specs.Ending.{EndsIn, opening}
 use Rattle.tmf_cli.specs.Faultless.{AreFaultless, IsFaultless}
 use Rattle.tmf_cli.specs.Headline.{KeepsEveryCommit, Went}
-use Rattle.tmf_cli.specs.Outcomes.{read_lines}
-use Rattle.tmf_cli.specs.OutputLaw.{Breaks, Candidate, Does, Formats, IsRecoveryLine, IsRefusedFor, IsRollLine, IsRunLine, IsUnrolledFor, IsUnrunFor, Lists, Loses, Node, Recovers, Rolls, Runs, RunsOnThreads, ToldBy}
-use Rattle.tmf_cli.specs.RunLines.{run_lines, told_lines}
+use Rattle.tmf_cli.specs.OutputLaw.{Breaks, Candidate, Does, Formats, IsRecoveryLine, IsRefusedFor, IsRollLine, IsRunLine, IsUnrolledFor, IsUnrunFor, Lists, Loses, Node, Recovers, Rolls, Runs, RunsWhole, ToldBy}
+use Rattle.tmf_cli.specs.RunLines.{read_lines, run_lines, told_lines}
 use Rattle.tmf_cli.proofs.Counting.{AreUnfailed, counted-more, counted-none, counted-one, rose-fewer, unfailed-none}
 use Rattle.tmf_cli.proofs.Extending.{all-weaker}
 use Rattle.tmf_cli.proofs.FailedCalls.{device_told, devices_told, told-there, told-times}
+use Rattle.tmf_cli.proofs.Falls.{told-falls}
 use Rattle.tmf_cli.proofs.Faultless.{fuse-after, fuse-before, same-faults}
-use Rattle.tmf_cli.proofs.FaultlessLines.{faultless-listed, faultless-outcomes, faultless-reads, faultless-recovered}
+use Rattle.tmf_cli.proofs.FaultlessLines.{faultless-listed, faultless-reads, faultless-recovered}
 use Rattle.tmf_cli.proofs.Losses.{number-within}
-use Rattle.tmf_cli.proofs.OneOutputs.{told-falls}
 use Rattle.tmf_cli.proofs.Resting.{file-volume}
 use Rattle.tmf_cli.specs.Countdown.{IsSwitched, Switches}
 
@@ -95,11 +89,11 @@ module _ (config : Config) (valid : IsValidConfig config) where
       ap plain_name (sym own) ∙ plain config (4 + volume) (omega (arith, few, valid.volumes.few))
 
   -- that of a trail or of a volume is no device of dumps
-  node-most : (device : ℕ) → IsOfNode config device → device ≤ 12
+  node-most : (device : ℕ) → IsUsed config device → device ≤ 12
   node-most device (inl trail) = omega (arith, trail, valid.trails.few)
-  node-most device (inr (volume, declared, is)) = omega (arith, is, declared.below, valid.volumes.few)
+  node-most device (inr volume) = omega (arith, volume.1, valid.volumes.few)
 
-  pub node-name : (device : ℕ) → IsOfNode config device → plain_name (device_name config device) ≡ node_device_name config device
+  pub node-name : (device : ℕ) → IsUsed config device → plain_name (device_name config device) ≡ node_device_name config device
   node-name device of = plain config device (node-most device of)
 
   -- so is that of a file's volume
@@ -122,13 +116,12 @@ unfailed (RunFailed device) fine = absurd fine
 unfailed (AttemptFailed tx device) fine = absurd fine
 unfailed (InDoubt tx device) fine = absurd fine
 unfailed (Hanging tx device) fine = absurd fine
-unfailed (Stopped name kind) fine = absurd fine
 unfailed _ fine = refl
 
-pub unfailed-all : (lines : List Line) → AreFaultless lines → AreUnfailed lines
+unfailed-all : (lines : List Line) → AreFaultless lines → AreUnfailed lines
 unfailed-all lines fine = all-weaker IsFaultless (λ line. failed_of line ≡ None) unfailed lines fine
 
--- what an outcome of a run on threads tells of
+-- what an outcome of a run tells of
 spent-names : (tx : Transid) (part : PartName) → filter_map failed_of (spent_line tx part ∷ []) ≡ []
 spent-names tx (Worker number) = refl
 spent-names tx (Device device) = refl
@@ -156,14 +149,14 @@ names-first : (config : Config) (named : Option ℕ) (numbers : List ℕ) → ma
 names-first config None numbers = refl
 names-first config (Some device) numbers = refl
 
-run-names : (config : Config) (outcomes : List RunOutcome) → filter_map failed_of (run_lines config outcomes) ≡ map (node_device_name config) (devices_told outcomes)
+run-names : (config : Config) (outcomes : List Outcome) → filter_map failed_of (run_lines config outcomes) ≡ map (node_device_name config) (devices_told outcomes)
 run-names config [] = refl
 run-names config (o ∷ rest) =
     filter_map-append failed_of (told_lines config o.tx o.told) (run_lines config rest) ∙ ap (λ l. l ++ filter_map failed_of (run_lines config rest)) (told-names config o.tx o.told)
     ∙ ap (λ l. map (node_device_name config) (cons_option (device_told o.told) []) ++ l) (run-names config rest) ∙ sym (names-first config (device_told o.told) (devices_told rest))
 
--- the lines of a run on threads
-pub ran-counted : {D : Type 0} (kind : disk.Ghosts D) (config : Config) (phase : Phase) (epoch : ℕ) (old opened closed new : List (Fuse D)) → Switches old opened → Switches closed new → (outcomes : List RunOutcome)
+-- the lines of a run that is whole
+pub ran-counted : {D : Type 0} (kind : disk.Ghosts D) (config : Config) (phase : Phase) (epoch : ℕ) (old opened closed new : List (Fuse D)) → Switches old opened → Switches closed new → (outcomes : List Outcome)
     → HasRun (fuse_kind kind) config phase epoch opened closed outcomes → (lines : List Line) → lines ≡ run_lines config outcomes → AreCounted kind.faults config lines old new
 ran-counted {D} kind config phase epoch old opened closed new on off outcomes ran lines printed =
     let account : Account = account_of (fuse_kind kind) config phase epoch (λ number. slice_get opened number) ran.found ran.log in
@@ -194,9 +187,9 @@ module _ {D : Type 0} (held : D → Held) (faults : D → ℕ) (config : Config)
   pub fine-lines : (fine lines : List Line) (old new : List (Fuse D)) → AreFaultless fine → lines ≡ fine → NoneFalls faults old new → IsCounted lines old new
   fine-lines fine lines old new are is falls = counted-none faults config lines old new (subst AreUnfailed (sym is) (unfailed-all fine are)) falls
 
-  -- those of a run on threads
-  threads-counted : (phase : Phase) (node after : Node) (old new : List (Fuse D)) (lines : List Line) → RunsOnThreads held faults config phase node old lines after new → IsCounted lines old new
-  threads-counted phase node after old new lines ran = ran-counted (telling held faults) config phase ran.up.epoch old ran.opened ran.closed new ran.on ran.off ran.outcomes ran.ran lines ran.printed
+  -- those of a run that is whole
+  whole-counted : (phase : Phase) (node after : Node) (old new : List (Fuse D)) (lines : List Line) → RunsWhole held faults config phase node old lines after new → IsCounted lines old new
+  whole-counted phase node after old new lines ran = ran-counted (telling held faults) config phase ran.up.epoch old ran.opened ran.closed new ran.on ran.off ran.outcomes ran.ran lines ran.printed
 
   -- ONE ACTION
 
@@ -221,9 +214,8 @@ module _ {D : Type 0} (held : D → Held) (faults : D → ℕ) (config : Config)
 
     run-counted : (phase : Phase) (node after : Node) (old new : List (Fuse D)) (lines : List Line) → NoneFalls faults old new → Runs held faults config phase node old lines after new → IsCounted lines old new
     run-counted phase node after old new lines falls (inl (down, is, left, same)) = plain-line _ lines old new refl is falls
-    run-counted phase node after old new lines falls (inr (inl (single, whole, dumps))) = fine-lines _ lines old new (faultless-outcomes config whole.done) whole.printed falls
-    run-counted phase node after old new lines falls (inr (inr (many, inl ran))) = threads-counted phase node after old new lines ran
-    run-counted phase node after old new lines falls (inr (inr (many, inr not_run))) = by not_run.error not_run.why not_run.is_line
+    run-counted phase node after old new lines falls (inr (inl ran)) = whole-counted phase node after old new lines ran
+    run-counted phase node after old new lines falls (inr (inr not_run)) = by not_run.error not_run.why not_run.is_line
       where
         by : (error : PhaseError) → IsUnrunFor faults node.candidates old new error → IsRunLine config error not_run.line → IsCounted lines old new
         by (phase_error.Failed device) why is = counted-one faults config (RunFailed (node_device_name config device)) lines old new device refl (not_run.printed ∙ ap (λ l. l ∷ []) is) falls why
@@ -281,84 +273,33 @@ module _ {D : Type 0} (held : D → Held) (faults : D → ℕ) (config : Config)
     no-lines : (lines : List Line) (old new : List (Fuse D)) → lines ≡ [] → NoneFalls faults old new → IsCounted lines old new
     no-lines lines old new none falls = counted-none faults config lines old new (subst AreUnfailed (sym none) tt) falls
 
-    breaks-counted : (done : Action) (node after : Node) (old new : List (Fuse D)) (lines : List Line) (why : RunError) → NoneFalls faults old new → Breaks held faults config why done node old lines after new
-        → IsCounted lines old new
-    breaks-counted action.Format node after old new lines why falls (memory, none, is) = no-lines lines old new none falls
-    breaks-counted (action.Recover kill) node after old new lines why falls (memory, none, is) = no-lines lines old new none falls
-    breaks-counted (action.Run phase) node after old new lines why falls (inl (memory, not_up, none, is)) = no-lines lines old new none falls
-    breaks-counted (action.Run phase) node after old new lines why falls (inr (inl (single, part))) = fine-lines _ lines old new (faultless-outcomes config part.done) part.printed falls
-    breaks-counted (action.Run phase) node after old new lines why falls (inr (inr (many, memory, inl (up, none, is, same)))) = no-lines lines old new none falls
-    breaks-counted (action.Run phase) node after old new lines why falls (inr (inr (many, memory, inr ran))) = threads-counted phase node after old new lines ran
-    breaks-counted (action.Lose volume) node after old new lines why falls (memory, none, is, same) = no-lines lines old new none falls
-    breaks-counted (action.Rollforward volume kill) node after old new lines why falls (memory, none, is, same) = no-lines lines old new none falls
-    breaks-counted (action.List file) node after old new lines why falls (memory, none, is) = no-lines lines old new none falls
-
-    -- one that a device has stopped is a single run, whose outcomes tell of no failed call
-    abbrev is_stopped : RunError → Bool
-    is_stopped (run.Stopped (stop.Failed device)) = true
-    is_stopped _ = false
-
-    stopped-unfailed : (done : Action) (node after : Node) (old new : List (Fuse D)) (lines : List Line) (why : RunError) → is_stopped why ≡ true → Breaks held faults config why done node old lines after new → AreUnfailed lines
-    stopped-unfailed done node after old new lines why stopped breaks = by done breaks
-      where
-        never : why ≡ run.Stopped stop.NoMemory → ⊥
-        never memory = let no : true ≡ false = sym stopped ∙ ap is_stopped memory in cc no
-
-        by : (done : Action) → Breaks held faults config why done node old lines after new → AreUnfailed lines
-        by action.Format (memory, none, is) = absurd (never memory)
-        by (action.Recover kill) (memory, none, is) = absurd (never memory)
-        by (action.Run phase) (inl (memory, not_up, none, is)) = absurd (never memory)
-        by (action.Run phase) (inr (inl (single, part))) = subst AreUnfailed (sym part.printed) (unfailed-all _ (faultless-outcomes config part.done))
-        by (action.Run phase) (inr (inr (many, memory, how))) = absurd (never memory)
-        by (action.Lose volume) (memory, none, is, same) = absurd (never memory)
-        by (action.Rollforward volume kill) (memory, none, is, same) = absurd (never memory)
-        by (action.List file) (memory, none, is) = absurd (never memory)
-
-    -- lines behind others that tell of no failed call
-    pub counted-behind : (lines more : List Line) (old new : List (Fuse D)) → AreUnfailed lines → IsCounted more old new → IsCounted (lines ++ more) old new
-    counted-behind lines more old new none counted = record {
-      named = counted.named;
-      names = filter_map-append failed_of lines more ∙ ap (λ l. l ++ filter_map failed_of more) (unfailed-none lines none) ∙ counted.names;
-      there = counted.there;
-      rose = counted.rose;
-    }
-
-    stop-counted : (done : Action) (node after : Node) (old new : List (Fuse D)) (lines : List Line) (why : RunError) (line : Line) → NoneFalls faults old new → Breaks held faults config why done node old lines after new
-        → StopsRun faults config done node old new why line → IsCounted (lines ++ line ∷ []) old new
-    stop-counted done node after old new lines why line falls breaks stops =
-        counted-behind lines (line ∷ []) old new (stopped-unfailed done node after old new lines why (ap is_stopped stops.reason) breaks)
-        (counted-one faults config (Stopped (device_name config stops.device) trouble.Failed) (line ∷ []) old new stops.device (ap Some (node-name config valid stops.device stops.failed.0)) (ap (λ l. l ∷ []) stops.is) falls
-        stops.failed.1)
+    breaks-counted : (done : Action) (node after : Node) (old new : List (Fuse D)) (lines : List Line) → NoneFalls faults old new → Breaks held faults config done node old lines after new → IsCounted lines old new
+    breaks-counted action.Format node after old new lines falls (none, is) = no-lines lines old new none falls
+    breaks-counted (action.Recover kill) node after old new lines falls (none, is) = no-lines lines old new none falls
+    breaks-counted (action.Run phase) node after old new lines falls (inl (not_up, none, is)) = no-lines lines old new none falls
+    breaks-counted (action.Run phase) node after old new lines falls (inr (inl (up, none, is, same))) = no-lines lines old new none falls
+    breaks-counted (action.Run phase) node after old new lines falls (inr (inr ran)) = whole-counted phase node after old new lines ran
+    breaks-counted (action.Lose volume) node after old new lines falls (none, is, same) = no-lines lines old new none falls
+    breaks-counted (action.Rollforward volume kill) node after old new lines falls (none, is, same) = no-lines lines old new none falls
+    breaks-counted (action.List file) node after old new lines falls (none, is) = no-lines lines old new none falls
 
     -- HOW THE SCRIPT ENDED
 
-    last-counted : (node : Node) (actions : List Action) (old new : List (Fuse D)) (ends : EndsIn held faults config node actions old new) → IsValidAction config ends.reaches.action
-        → IsCounted (ends.more ++ ends.last) ends.reaches.between new
-    last-counted node actions old new ends is = by ends.begun
-      where
-        none-last : ends.last ≡ [] → IsCounted ends.more ends.reaches.between new → IsCounted (ends.more ++ ends.last) ends.reaches.between new
-        none-last none counted = subst (λ l. IsCounted l ends.reaches.between new) (sym (append-nil ends.more) ∙ ap (λ l. ends.more ++ l) (sym none)) counted
-
-        by : ((ends.last ≡ []) × Does held faults config ends.reaches.action ends.reaches.middle ends.reaches.between ends.more ends.left new)
-            ⊎ ((why : RunError) × Breaks held faults config why ends.reaches.action ends.reaches.middle ends.reaches.between ends.more ends.left new
-            × ((ends.last ≡ []) ⊎ ((line : Line) × (ends.last ≡ line ∷ []) × StopsRun faults config ends.reaches.action ends.reaches.middle ends.reaches.between new why line)))
-            → IsCounted (ends.more ++ ends.last) ends.reaches.between new
-        by (inl (none, does)) = none-last none (does-counted ends.reaches.action ends.reaches.middle ends.left ends.reaches.between new ends.more is ends.counts.falls does)
-        by (inr (why, breaks, inl none)) = none-last none (breaks-counted ends.reaches.action ends.reaches.middle ends.left ends.reaches.between new ends.more why ends.counts.falls breaks)
-        by (inr (why, breaks, inr (line, is_last, stops))) =
-            subst (λ l. IsCounted (ends.more ++ l) ends.reaches.between new) (sym is_last)
-            (stop-counted ends.reaches.action ends.reaches.middle ends.left ends.reaches.between new ends.more why line ends.counts.falls breaks stops)
+    last-counted : (node : Node) (actions : List Action) (old new : List (Fuse D)) (ends : EndsIn held faults config node actions old new) → IsValidAction config ends.reaches.action → IsCounted ends.more ends.reaches.between new
+    last-counted node actions old new ends is =
+        let at = ends.reaches in
+        ⊎_elim (does-counted at.action at.middle ends.left at.between new ends.more is ends.counts.falls) (breaks-counted at.action at.middle ends.left at.between new ends.more ends.counts.falls) ends.begun
 
     pub front-valid : (first more : List Action) → AllByRecursion (IsValidAction config) (first ++ more) → AllByRecursion (IsValidAction config) first × AllByRecursion (IsValidAction config) more
     front-valid [] more are = (tt, are)
     front-valid (done ∷ first) more are = let parts = front-valid first more are.1 in ((are.0, parts.0), parts.1)
 
     ends-counted : (node : Node) (actions : List Action) (old new : List (Fuse D)) (ends : EndsIn held faults config node actions old new) → AllByRecursion (IsValidAction config) actions
-        → IsCounted (ends.reaches.lines ++ (ends.more ++ ends.last)) old new
+        → IsCounted (ends.reaches.lines ++ ends.more) old new
     ends-counted node actions old new ends are =
         let at = ends.reaches in
         let parts = front-valid at.done (at.action ∷ at.rest) (subst (AllByRecursion (IsValidAction config)) at.parts are) in
-        counted-more faults config at.lines (ends.more ++ ends.last) old at.between new (told-falls held faults config at.done node at.middle old at.between at.lines at.told)
+        counted-more faults config at.lines ends.more old at.between new (told-falls held faults config at.done node at.middle old at.between at.lines at.told)
         (rows-counted at.done node at.middle old at.between at.lines parts.0 at.told) (last-counted node actions old new ends parts.1.0)
 
   -- The law.

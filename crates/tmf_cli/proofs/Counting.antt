@@ -1,7 +1,7 @@
 -- What is counted of lines: none, one, and lines behind others.
-use Rattle.std.specs.Prelude.{cond, map, min, slice_get, ◌^◌}
+use Rattle.std.specs.Prelude.{cond, map, slice_get, ◌^◌}
 use Rattle.std.specs.List.{AllByRecursion, cons_option, filter, filter_map}
-use Rattle.std.proofs.Common.{true, false, ◌≡◌, ◌==◌, ◌≤◌, ◌<◌, ◌+◌, ◌-◌, ◌++◌, ◌∷◌, [], ℕ, Bool, List, length, length-append, Option, Some, None, refl, sym, ap, subst, ◌∙◌, inl, inr, ⊎_elim, arith, eqb-true}
+use Rattle.std.proofs.Common.{true, false, ◌≡◌, ◌==◌, ◌≤◌, ◌<◌, ◌+◌, ◌-◌, ◌++◌, ◌∷◌, [], ℕ, Bool, List, length, length-append, Some, None, refl, sym, ap, subst, ◌∙◌, ⊎_elim, arith, eqb-true}
 use Rattle.std.proofs.lemmas.Bool.Decides.{leb_tells}
 use Rattle.std.proofs.lemmas.List.{map-append}
 use Rattle.std.proofs.lemmas.List.Elements.{filter-append, filter_map-append}
@@ -15,7 +15,7 @@ use Rattle.run_outcomes.specs.Run.{RoseBy}
 use Rattle.tmf_lines.specs.Report.{node_device_name}
 use Rattle.tmf_lines.specs.declared.line.Line.{Line}
 use Rattle.tmf_model.specs.declared.config.Config.{Config}
-use Rattle.tmf_cli.specs.Counts.{AreCounted, RoseTimes, failed_of, times_named}
+use Rattle.tmf_cli.specs.Counts.{AreCounted, failed_of, times_named}
 use Rattle.tmf_cli.proofs.Extending.{all-append}
 use Rattle.tmf_cli.proofs.Faultless.{NoLess, fuse-after, same-length}
 

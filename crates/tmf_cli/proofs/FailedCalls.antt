@@ -1,7 +1,7 @@
 -- The attempts of a run that tell of a device are no more than its failed calls.
-use Rattle.std.specs.Prelude.{cond, map, slice_get}
+use Rattle.std.specs.Prelude.{cond, map}
 use Rattle.std.specs.List.{AllByRecursion, cons_option, filter, filter_map}
-use Rattle.std.proofs.Common.{suc, true, false, ◌≡◌, ◌≢◌, ◌⊎◌, ◌==◌, ◌≤◌, ◌<◌, ◌+◌, ◌++◌, ◌∷◌, [], ℕ, Bool, List, length, Option, Some, None, refl, sym, ap, subst, ◌∙◌, inl, inr, ⊎_elim, arith, eqb-true}
+use Rattle.std.proofs.Common.{suc, true, false, ◌≡◌, ◌≢◌, ◌⊎◌, ◌==◌, ◌≤◌, ◌<◌, ◌++◌, ◌∷◌, [], ℕ, Bool, List, length, Option, Some, None, refl, sym, ap, subst, ◌∙◌, inl, inr, ⊎_elim, arith, eqb-true}
 use Rattle.std.proofs.lemmas.Bool.{eq-eqb}
 use Rattle.std.proofs.lemmas.List.{length-map, map-append}
 use Rattle.std.proofs.lemmas.Option.{none-some}

@@ -19,9 +19,6 @@ use Rattle.trail_files.specs.declared.monitor_record.MonitorRecord.{MonitorRecor
 use Rattle.node_machine.specs.Deeds.{HasFailedFor}
 use Rattle.node_machine.specs.Same.{Among}
 use Rattle.node_machine.specs.declared.event.By.TheVariants.{Attempt}
-use Rattle.one_worker.specs.declared.outcome.AttemptEnd.{AttemptEnd}
-use Rattle.one_worker.specs.declared.outcome.AttemptEnd.TheVariants as end
-use Rattle.one_worker.specs.declared.outcome.Outcome.{Outcome}
 use Rattle.rollforward.specs.declared.errors.RollError.{RollError}
 use Rattle.rollforward.specs.declared.errors.RollError.TheVariants as roll
 use Rattle.run_outcomes.specs.Devices.{devices, fuse_kind, monitor_device, part_of_device}
@@ -29,7 +26,7 @@ use Rattle.run_outcomes.specs.Ends.{times_failed}
 use Rattle.run_outcomes.specs.Run.{account_of, volumes_of_item}
 use Rattle.run_outcomes.specs.Told.{Account, HasDeviceFailed, IsDamaged, IsTold, item_of}
 use Rattle.run_outcomes.specs.declared.outcome.Hang.TheVariants as hang
-use Rattle.run_outcomes.specs.declared.outcome.Outcome.{Outcome as RunOutcome}
+use Rattle.run_outcomes.specs.declared.outcome.Outcome.{Outcome}
 use Rattle.run_outcomes.specs.declared.outcome.PhaseError.{PhaseError}
 use Rattle.run_outcomes.specs.declared.outcome.PhaseError.TheVariants as phase_error
 use Rattle.run_outcomes.specs.declared.outcome.Told.{Told}
@@ -44,7 +41,6 @@ use Rattle.tmf_lines.specs.declared.line.Line.TheVariants.{Entry, Listed, LostVo
 use Rattle.tmf_lines.specs.Report.{listed_lines, lost_lines, part_name, recorded_lines, recovered_lines, spent_line, volume_name}
 use Rattle.tmf_lines.specs.declared.line.PartName.{PartName}
 use Rattle.tmf_lines.specs.declared.line.PartName.TheVariants.{Device, Worker}
-use Rattle.tmf_cli.specs.declared.node.Up.{Up}
 use Rattle.tmf_model.specs.declared.script.Script.{Script}
 use Rattle.tmf_cli.specs.declared.status.Status.{Status}
 use Rattle.tmf_cli.specs.declared.status.Status.TheVariants as status
@@ -52,14 +48,12 @@ use Rattle.tmf_cli.specs.Ending.{EndsWhole, opening}
 use Rattle.tmf_cli.specs.Faultless.{AreFaultless, FaultlessLaw, IsFaultless, IsFaultlessOutput, IsKnown}
 use Rattle.tmf_cli.specs.OneOutput.{FormatsFirst, NoneRose}
 use Rattle.tmf_cli.specs.Top.{Tells}
-use Rattle.tmf_cli.specs.Outcomes.{end_lines, outcome_lines, read_line, read_lines}
-use Rattle.tmf_cli.specs.OutputLaw.{AllItemsDone, Candidate, Does, Formats, IsRecoveryLine, IsRefusedFor, IsRollLine, IsUnrolledFor, IsUnrunFor, Lists, Loses, Node, OneGoesOn, OneIsLeft, Recovers, Rolls, Runs, RunsOnThreads, ToldBy, after_loss, after_roll, after_stop, unrolled_node}
-use Rattle.tmf_cli.specs.RunLines.{run_lines, told_lines}
-use Rattle.tmf_cli.specs.Single.{items_of}
+use Rattle.tmf_cli.specs.OutputLaw.{Candidate, Does, Formats, IsRecoveryLine, IsRefusedFor, IsRollLine, IsUnrolledFor, IsUnrunFor, Lists, Loses, Node, OneGoesOn, OneIsLeft, Recovers, Rolls, Runs, RunsWhole, ToldBy, after_loss, after_roll, after_stop, unrolled_node}
+use Rattle.tmf_cli.specs.RunLines.{read_line, read_lines, run_lines, told_lines}
 use Rattle.tmf_cli.proofs.Extending.{all-append}
+use Rattle.tmf_cli.proofs.Falls.{rose-later, told-falls}
 use Rattle.tmf_cli.proofs.Faultless.{failed-times, rose-from, rose-within, same-length, times-rose}
 use Rattle.tmf_cli.proofs.Headlines.{all-drop, all-map}
-use Rattle.tmf_cli.proofs.OneOutputs.{rose-later, told-falls}
 use Rattle.tmf_cli.proofs.Unbroken.{attempt-item, item-named, undamaged}
 
 -- LINES
@@ -86,19 +80,8 @@ faultless-read tx op (Some value) = tt
 pub faultless-reads : (tx : Transid) (reads : List (ℕ × Option (List ℕ))) → AreFaultless (read_lines tx reads)
 faultless-reads tx reads = all-map IsFaultless (λ (read : ℕ × Option (List ℕ)). read_line tx read.0 read.1) (λ read. faultless-read tx read.0 read.1) reads
 
--- a run of one worker that is whole tells of no fault
-faultless-end : (config : Config) (tx : Transid) (ended : AttemptEnd) → AreFaultless (end_lines config tx ended)
-faultless-end config tx (end.Committed place reads) = (tt, faultless-reads tx reads)
-faultless-end config tx end.Aborted = (tt, tt)
-faultless-end config tx (end.Refused op reason) = (tt, tt)
-faultless-end config tx (end.Full file key) = (tt, tt)
-
-pub faultless-outcomes : (config : Config) (outcomes : List Outcome) → AreFaultless (outcome_lines config outcomes)
-faultless-outcomes config [] = tt
-faultless-outcomes config (o ∷ rest) = all-append IsFaultless (end_lines config o.tx o.end) (outcome_lines config rest) (faultless-end config o.tx o.end) (faultless-outcomes config rest)
-
--- an attempt or item of a run on threads that neither a failed call nor damage has ended
-abbrev IsFaultlessTold : Told → Type 0
+-- an attempt or item of a run that neither a failed call nor damage has ended
+abbrev pub IsFaultlessTold : Told → Type 0
 IsFaultlessTold (told.Failed device) = ⊥
 IsFaultlessTold (told.Damaged device damage) = ⊥
 IsFaultlessTold (told.InDoubt device) = ⊥
@@ -129,7 +112,7 @@ faultless-told config tx (told.Controlled volume low) fine = (tt, tt)
 faultless-told config tx (told.Dumped volume start) fine = (tt, tt)
 faultless-told config tx (told.Dumping volume) fine = (tt, tt)
 
-faultless-run : (config : Config) (outcomes : List RunOutcome) → ((o : RunOutcome) → Among outcomes o → IsFaultlessTold o.told) → AreFaultless (run_lines config outcomes)
+faultless-run : (config : Config) (outcomes : List Outcome) → ((o : Outcome) → Among outcomes o → IsFaultlessTold o.told) → AreFaultless (run_lines config outcomes)
 faultless-run config [] each = tt
 faultless-run config (o ∷ rest) each =
     all-append IsFaultless (told_lines config o.tx o.told) (run_lines config rest) (faultless-told config o.tx o.told (each o (inl refl))) (faultless-run config rest (λ other there. each other (inr there)))
@@ -161,16 +144,12 @@ known-left : (candidates after : Option (List Candidate)) (list : List MonitorRe
 known-left None after list lost known is = absurd (none-some known.0 known.1)
 known-left (Some standings) after list lost known is = (_, is.2)
 
-known-done : (config : Config) (up : Up) (phase : Phase) (candidates after : Option (List Candidate)) (done : List Outcome) → IsKnown candidates → AllItemsDone config up (items_of phase) candidates done after → IsKnown after
-known-done config up phase None after done known is = absurd (none-some known.0 known.1)
-known-done config up phase (Some standings) after done known is = (_, is.3)
-
-known-gone-on : (config : Config) (phase : Phase) (epoch : ℕ) (held : ℕ → Held) (outcomes : List RunOutcome) (candidates after : Option (List Candidate)) → IsKnown candidates → OneGoesOn config phase epoch held outcomes candidates after → IsKnown after
+known-gone-on : (config : Config) (phase : Phase) (epoch : ℕ) (held : ℕ → Held) (outcomes : List Outcome) (candidates after : Option (List Candidate)) → IsKnown candidates → OneGoesOn config phase epoch held outcomes candidates after → IsKnown after
 known-gone-on config phase epoch held outcomes None after known is = absurd (none-some known.0 known.1)
 known-gone-on config phase epoch held outcomes (Some standings) after known is = (_, is.3.candidates)
 
 -- and then the node was up with what the devices stood for
-up-with : (config : Config) (phase : Phase) (epoch : ℕ) (held : ℕ → Held) (outcomes : List RunOutcome) (candidates after : Option (List Candidate)) → IsKnown candidates → OneGoesOn config phase epoch held outcomes candidates after
+up-with : (config : Config) (phase : Phase) (epoch : ℕ) (held : ℕ → Held) (outcomes : List Outcome) (candidates after : Option (List Candidate)) → IsKnown candidates → OneGoesOn config phase epoch held outcomes candidates after
     → (s : Candidate) × IsNodeUp config held s.list s.map epoch
 up-with config phase epoch held outcomes None after known is = absurd (none-some known.0 known.1)
 up-with config phase epoch held outcomes (Some standings) after known is = (is.0, is.2)
@@ -203,7 +182,7 @@ module _ {D : Type 0} (held : D → Held) (faults : D → ℕ) (config : Config)
       by recovery.NoMemory why is = absurd why
 
   -- no call has failed for an attempt or item of a run
-  never-failed : (phase : Phase) (node after : Node) (old new : List (Fuse D)) (lines : List Line) (run : RunsOnThreads held faults config phase node old lines after new) → length old ≡ devices → NoneFalls faults old new
+  never-failed : (phase : Phase) (node after : Node) (old new : List (Fuse D)) (lines : List Line) (run : RunsWhole held faults config phase node old lines after new) → length old ≡ devices → NoneFalls faults old new
       → NoneRose faults old new → (device : ℕ) (tx : Transid) → device < devices → HasFailedFor run.ran.log (part_of_device device) (Attempt tx) → ⊥
   never-failed phase node after old new lines run count falls quiet device tx within failed =
       let before = some-at old device (omega (arith, within, count)) in
@@ -212,27 +191,25 @@ module _ {D : Type 0} (held : D → Held) (faults : D → ℕ) (config : Config)
       (λ was is was_at is_at. times-rose (times_failed (part_of_device device) run.ran.log) (fuse_faults faults was) (fuse_faults faults is) (failed-times run.ran.log (part_of_device device) (Attempt tx) failed)
       (run.ran.failed device was is was_at is_at)))
 
-  threads-fine : (phase : Phase) (node after : Node) (old new : List (Fuse D)) (lines : List Line) → length old ≡ devices → NoneFalls faults old new → IsKnown node.candidates → NoneRose faults old new
-      → RunsOnThreads held faults config phase node old lines after new → IsFine lines after
-  threads-fine phase node after old new lines count falls known quiet run =
+  -- so neither a failed call nor damage has ended one of a run of a node of which it was known what its devices may stand for
+  pub outcomes-fine : (phase : Phase) (node after : Node) (old new : List (Fuse D)) (lines : List Line) → length old ≡ devices → NoneFalls faults old new → IsKnown node.candidates → NoneRose faults old new
+      → (run : RunsWhole held faults config phase node old lines after new) → (o : Outcome) → Among run.outcomes o → IsFaultlessTold o.told
+  outcomes-fine phase node after old new lines count falls known quiet run o there =
       let account : Account = account_of (fuse_kind (telling held faults)) config phase run.up.epoch (λ number. slice_get run.opened number) run.ran.found run.ran.log in
-      let up = up-with config phase run.up.epoch (held_at held run.opened) run.outcomes node.candidates after.candidates known run.stands in (
-        subst AreFaultless (sym run.printed)
-            (faultless-run config run.outcomes (λ o there.
-            unharmed account o.tx (λ device failed. never-failed phase node after old new lines run count falls quiet device o.tx failed.0 failed.1)
-            (λ item is device damage damaged.
-            undamaged held faults config phase run.up.epoch run.opened up.0.list up.0.map up.1 run.present account refl (volumes_of_item config item) (λ v among. item-named config phase o.tx item v is among) device damage damaged)
-            o.told (run.ran.told.each o there).told)),
-        known-gone-on config phase run.up.epoch (held_at held run.opened) run.outcomes node.candidates after.candidates known run.stands,
-      )
+      let up = up-with config phase run.up.epoch (held_at held run.opened) run.outcomes node.candidates after.candidates known run.stands in
+      unharmed account o.tx (λ device failed. never-failed phase node after old new lines run count falls quiet device o.tx failed.0 failed.1)
+      (λ item is device damage damaged.
+      undamaged held faults config phase run.up.epoch run.opened up.0.list up.0.map up.1 run.present account refl (volumes_of_item config item) (λ v among. item-named config phase o.tx item v is among) device damage damaged)
+      o.told (run.ran.told.each o there).told
 
   run-fine : (phase : Phase) (node after : Node) (old new : List (Fuse D)) (lines : List Line) → length old ≡ devices → NoneFalls faults old new → IsKnown node.candidates → NoneRose faults old new
       → Runs held faults config phase node old lines after new → IsFine lines after
   run-fine phase node after old new lines count falls known quiet (inl (down, is, left, same)) = fine _ lines after node tt is left known
-  run-fine phase node after old new lines count falls known quiet (inr (inl (single, whole, dumps))) =
-      (subst AreFaultless (sym whole.printed) (faultless-outcomes config whole.done), known-done config whole.up phase node.candidates after.candidates whole.done known whole.stands)
-  run-fine phase node after old new lines count falls known quiet (inr (inr (many, inl run))) = threads-fine phase node after old new lines count falls known quiet run
-  run-fine phase node after old new lines count falls known quiet (inr (inr (many, inr not))) = fine not.line lines after _ (by not.error not.why) not.printed not.left known
+  run-fine phase node after old new lines count falls known quiet (inr (inl run)) = (
+    subst AreFaultless (sym run.printed) (faultless-run config run.outcomes (outcomes-fine phase node after old new lines count falls known quiet run)),
+    known-gone-on config phase run.up.epoch (held_at held run.opened) run.outcomes node.candidates after.candidates known run.stands,
+  )
+  run-fine phase node after old new lines count falls known quiet (inr (inr not)) = fine not.line lines after _ (by not.error not.why) not.printed not.left known
     where
       by : (error : PhaseError) → IsUnrunFor faults node.candidates old new error → IsFaultless not.line
       by (phase_error.Failed device) why = absurd (quiet device why)

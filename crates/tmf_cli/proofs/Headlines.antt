@@ -1,11 +1,12 @@
 -- The headline, action by action.
-use Rattle.std.specs.Prelude.{◌==◌, if◌then◌else◌, Contains, drop, max, map, flat_map, unwrap_or}
+use Rattle.std.specs.Prelude.{Contains, drop, max, map, flat_map, unwrap_or}
 use Rattle.std.specs.List.{AllByRecursion, enumerate_from}
-use Rattle.std.proofs.Common.{zero, suc, true, false, ◌≡◌, ◌⊎◌, ◌≤◌, ◌+◌, ◌++◌, ◌∷◌, [], ℕ, Bool, List, length, length-append, Option, Some, None, refl, sym, ap, subst, ◌∙◌, inl, inr, ⊎_elim, arith, eqb-true}
-use Rattle.std.proofs.lemmas.List.{append_assoc, append-nil, take-append-le}
+use Rattle.std.proofs.Common.{zero, suc, true, false, ◌≡◌, ◌⊎◌, ◌≤◌, ◌++◌, ◌∷◌, [], ℕ, Bool, List, length, Option, Some, None, refl, sym, ap, subst, ◌∙◌, inl, inr, ⊎_elim, arith}
+use Rattle.std.proofs.lemmas.List.{append_assoc, append-nil}
 use Rattle.std.proofs.lemmas.List.Elements.{Contains-append_left, Contains-append_right}
-use Rattle.std.proofs.lemmas.Option.{none-some, slice_get_within}
+use Rattle.std.proofs.lemmas.Option.{none-some}
 use Rattle.disk_model.specs.Held.{Held}
+use Rattle.disk_model.specs.Devices.{held_at}
 use Rattle.disk_model.specs.declared.fuse.Fuse.{Fuse}
 use Rattle.tmf_model.specs.declared.config.Config.{Config}
 use Rattle.tmf_model.specs.declared.script.Action.{Action}
@@ -17,37 +18,23 @@ use Rattle.volume_recovery.specs.Node.{next_epoch}
 use Rattle.volume_recovery.proofs.Orders.{last_epoch-start}
 use Rattle.tmf_lines.specs.declared.line.Line.{Line}
 use Rattle.tmf_lines.specs.declared.line.Line.TheVariants.{Entry, Formatted, Listed, LoseFailed, LostVolume, Recorded, Recovered, Removed, RollFailed, Rolled}
-use Rattle.tmf_cli.specs.declared.node.NodeState.{NodeState}
-use Rattle.tmf_cli.specs.declared.node.Up.{Up}
-use Rattle.tmf_cli.specs.Single.{IsSingle, items_of}
-use Rattle.tmf_cli.specs.BetweenActions.{IsRunUp}
-use Rattle.tmf_cli.specs.Headline.{AllExtend, AreOf, CallHeadline, EndsByScript, Extends, IsOrigin, KnowsList, MayHaveLost, MayMove, RunDone, acknowledged_by, epoch_of, is_formatted, lost_behind, move_of, next_run}
-use Rattle.tmf_lines.specs.Report.{listed_lines, lost_lines, node_device_name, recorded_lines, volume_name}
-use Rattle.tmf_cli.specs.Outcomes.{outcome_lines}
-use Rattle.tmf_cli.specs.RunLines.{run_lines}
+use Rattle.tmf_lines.specs.Report.{listed_lines, lost_lines, node_device_name, recorded_lines, recovered_lines, volume_name}
 use Rattle.run_outcomes.specs.declared.outcome.PhaseError.{PhaseError}
 use Rattle.run_outcomes.specs.declared.outcome.PhaseError.TheVariants as phase_error
-use Rattle.one_worker.proofs.KeyedFiles.{slice_get-front}
-use Rattle.one_worker.specs.declared.outcome.Outcome.{Outcome}
-use Rattle.one_worker.specs.Outcome.{AreOutcomes, IsOutcome}
-use Rattle.one_worker.specs.Stop.{run_in_flight}
-use Rattle.one_worker.specs.declared.stop.RunError.{RunError}
-use Rattle.one_worker.specs.declared.stop.RunError.TheVariants as run
-use Rattle.trail_replay.specs.declared.stop.Stop.TheVariants as stop
-use Rattle.tmf_model.specs.declared.script.Item.{Item}
-use Rattle.tmf_model.specs.RecordMap.{RecordMap}
-use Rattle.tmf_lines.specs.Report.{recovered_lines}
-use Rattle.disk_model.specs.Devices.{HoldSame, RoseAt, held_at}
-use Rattle.tmf_cli.specs.OutputLaw.{Breaks, IsCausedRun, OneIsLeft, Does, Formats, AllItemsDone, IsRecoveryLine, IsRollLine, IsRunLine, Lists, Loses, Node, OneGoesOn, OneOf, Recovers, Rolls, Runs, RunsOnThreads, RunsPart, RunsWhole, Candidate, ToldBy, FirstItemsDone, after_loss, after_part_loss, after_part_roll, after_roll, after_stop, down, down_node, formatted_node, lost_node, part_lost_node, rolled_node, stopped_node, unrolled_node, with_back, with_outcomes, with_records, with_start, IsUndone}
 use Rattle.volume_recovery.specs.declared.errors.RecoverError.{RecoverError}
 use Rattle.volume_recovery.specs.declared.errors.RecoverError.TheVariants as recovery
 use Rattle.volume_recovery.specs.VolumeAnswers.{lost_among}
 use Rattle.rollforward.specs.declared.errors.RollError.{RollError}
 use Rattle.rollforward.specs.declared.errors.RollError.TheVariants as roll
 use Rattle.rollforward.specs.RolledNode.{without}
+use Rattle.tmf_cli.specs.declared.node.NodeState.{NodeState}
+use Rattle.tmf_cli.specs.declared.node.Up.{Up}
+use Rattle.tmf_cli.specs.Headline.{AllExtend, AreOf, CallHeadline, EndsByScript, Extends, IsOrigin, KnowsList, MayHaveLost, MayMove, RunDone, epoch_of, is_formatted, lost_behind, move_of, next_run, place_told}
+use Rattle.tmf_cli.specs.OutputLaw.{Breaks, Candidate, Does, Formats, IsRecoveryLine, IsRollLine, IsRunLine, Lists, Loses, Node, OneGoesOn, OneIsLeft, OneOf, Recovers, Rolls, Runs, RunsWhole, ToldBy, after_loss, after_part_loss, after_part_roll, after_roll, after_stop, down, down_node, formatted_node, lost_node, part_lost_node, rolled_node, stopped_node, unrolled_node, with_back, with_records, with_start}
 use Rattle.tmf_cli.specs.Lost.{lost_flags, lost_with, none_lost, up_for, up_with_volume, with_volume, workers_name_lost}
+use Rattle.tmf_cli.specs.RunLines.{run_lines}
 use Rattle.tmf_cli.proofs.Losses.{unless-some}
-use Rattle.tmf_cli.proofs.Extending.{AreQuiet, AreSilent, IsQuiet, all-append, all-weaker, extend-moved, extend-more, extend-none, extend-quiet, extend-run, extend-start, extend-weaker, outcomes-unformatted, quiet-unformatted, silent-of, silent-unformatted}
+use Rattle.tmf_cli.proofs.Extending.{AreQuiet, AreSilent, IsQuiet, all-append, all-weaker, extend-moved, extend-more, extend-none, extend-start, silent-of, silent-unformatted}
 use Rattle.tmf_cli.proofs.ThreadRuns.{extend-landed, extend-offered, run-unformatted}
 
 pub all-map : {A B : Type 0} (P : B → Type 0) (f : A → B) → ((a : A) → P (f a)) → (xs : List A) → AllByRecursion P (map f xs)
@@ -81,16 +68,16 @@ next-most None list = omega arith
 next-most (Some up) list = omega arith
 
 -- what one step of the headline says
-pub record Step (config : Config) (most : ℕ) (node : Node) (lines : List Line) (after : Node) (done : Action) : Type 0 where
+pub record Step (config : Config) (node : Node) (lines : List Line) (after : Node) (done : Action) : Type 0 where
   pub runs : List RunDone
   pub of_action : AllByRecursion (λ run. done ≡ action.Run run.phase) runs
   pub knows : KnowsList after.state after.candidates
-  pub extends : AllExtend config most runs lines node.state after.state node.candidates after.candidates
+  pub extends : AllExtend config runs lines node.state after.state node.candidates after.candidates
   pub formatted : after.state.formatted ≡ node.state.formatted
   pub unformatted : AllByRecursion (λ line. is_formatted line ≡ false) lines
 
 -- nothing is added, whatever may stand
-pub same-all : (config : Config) (lines : List Line) (old new : NodeState) (candidates : Option (List Candidate)) → AreQuiet lines → Rises old new → AllExtend config 0 [] lines old new candidates candidates
+pub same-all : (config : Config) (lines : List Line) (old new : NodeState) (candidates : Option (List Candidate)) → AreQuiet lines → Rises old new → AllExtend config [] lines old new candidates candidates
 same-all config lines old new None quiet rises = refl
 same-all config lines old new (Some before) quiet rises = (before, refl, λ t one. (t, one, extend-none config (next_run old.up t.list) (next_run new.up t.list) lines t (rises t.list) quiet))
 
@@ -113,7 +100,7 @@ start-rises : (old new : Option Up) (list : List MonitorRecord) → next_run old
 start-rises old None list = omega (arith, next-most old list, start-epoch list)
 start-rises old (Some up) list = omega (arith, next-most old list, start-epoch list)
 
-stop-all : (config : Config) (lines : List Line) (old : NodeState) (candidates : Option (List Candidate)) → AreQuiet lines → AllExtend config 0 [] lines old (down old) candidates (after_stop candidates)
+stop-all : (config : Config) (lines : List Line) (old : NodeState) (candidates : Option (List Candidate)) → AreQuiet lines → AllExtend config [] lines old (down old) candidates (after_stop candidates)
 stop-all config lines old None quiet = refl
 stop-all config lines old (Some before) quiet = (
   flat_map (λ s. s ∷ with_start s ∷ []) before,
@@ -124,8 +111,8 @@ stop-all config lines old (Some before) quiet = (
         s,
         found.1,
         ⊎_elim
-            (λ is. subst (λ u. Extends config 0 (next_run old.up s.list) (next_run None u.list) [] lines s u) is (extend-none config (next_run old.up s.list) (suc (epoch_of s.list)) lines s (next-most old.up s.list) quiet))
-            (λ is. subst (λ u. Extends config 0 (next_run old.up s.list) (next_run None u.list) [] lines s u) is (extend-start config (next_run old.up s.list) (next_run None (with_start s).list) lines s (start-rises old.up None s.list) quiet))
+            (λ is. subst (λ u. Extends config (next_run old.up s.list) (next_run None u.list) [] lines s u) is (extend-none config (next_run old.up s.list) (suc (epoch_of s.list)) lines s (next-most old.up s.list) quiet))
+            (λ is. subst (λ u. Extends config (next_run old.up s.list) (next_run None u.list) [] lines s u) is (extend-start config (next_run old.up s.list) (next_run None (with_start s).list) lines s (start-rises old.up None s.list) quiet))
             found.2,
       ),
 )
@@ -135,7 +122,7 @@ module _ (config : Config) (moves : List ℕ → List ℕ) (lines : List Line) (
   abbrev moved : Candidate → Candidate
   moved s = record { list = s.list; map = s.map; lost = moves s.lost }
 
-  moved-all : (before : List Candidate) → AllExtend config 0 [] lines old new (Some before) (Some (map moved before))
+  moved-all : (before : List Candidate) → AllExtend config [] lines old new (Some before) (Some (map moved before))
   moved-all before = (
     map moved before,
     refl,
@@ -144,12 +131,12 @@ module _ (config : Config) (moves : List ℕ → List ℕ) (lines : List Line) (
         let s = found.0 in (
           s,
           found.1,
-          subst (λ u. Extends config 0 (next_run old.up s.list) (next_run new.up u.list) [] lines s u) found.2
+          subst (λ u. Extends config (next_run old.up s.list) (next_run new.up u.list) [] lines s u) found.2
               (extend-moved config (next_run old.up s.list) (next_run new.up s.list) lines (moves s.lost) s (rises s.list) silent (tells s.lost)),
         ),
   )
 
-  part-moved-all : ((lost : List ℕ) → MayHaveLost config lines lost lost) → (before : List Candidate) → AllExtend config 0 [] lines old new (Some before) (Some (flat_map (λ s. s ∷ moved s ∷ []) before))
+  part-moved-all : ((lost : List ℕ) → MayHaveLost config lines lost lost) → (before : List Candidate) → AllExtend config [] lines old new (Some before) (Some (flat_map (λ s. s ∷ moved s ∷ []) before))
   part-moved-all keeps before = (
     flat_map (λ s. s ∷ moved s ∷ []) before,
     refl,
@@ -159,8 +146,8 @@ module _ (config : Config) (moves : List ℕ → List ℕ) (lines : List Line) (
           s,
           found.1,
           ⊎_elim
-              (λ is. subst (λ u. Extends config 0 (next_run old.up s.list) (next_run new.up u.list) [] lines s u) is (extend-moved config (next_run old.up s.list) (next_run new.up s.list) lines s.lost s (rises s.list) silent (keeps s.lost)))
-              (λ is. subst (λ u. Extends config 0 (next_run old.up s.list) (next_run new.up u.list) [] lines s u) is
+              (λ is. subst (λ u. Extends config (next_run old.up s.list) (next_run new.up u.list) [] lines s u) is (extend-moved config (next_run old.up s.list) (next_run new.up s.list) lines s.lost s (rises s.list) silent (keeps s.lost)))
+              (λ is. subst (λ u. Extends config (next_run old.up s.list) (next_run new.up u.list) [] lines s u) is
               (extend-moved config (next_run old.up s.list) (next_run new.up s.list) lines (moves s.lost) s (rises s.list) silent (tells s.lost)))
               found.2,
         ),
@@ -196,19 +183,19 @@ module _ (config : Config) (volume : ℕ) (lines : List Line) (old : NodeState) 
   abbrev pub Keeps : Type 0
   Keeps = (lost : List ℕ) → MayHaveLost config lines lost lost
 
-  loss-all : Tells false → (candidates : Option (List Candidate)) → AllExtend config 0 [] lines old (down old) candidates (after_loss config volume candidates)
+  loss-all : Tells false → (candidates : Option (List Candidate)) → AllExtend config [] lines old (down old) candidates (after_loss config volume candidates)
   loss-all tells None = refl
   loss-all tells (Some before) = moved-all config (lost_with config volume) lines old (down old) (down-rises old) silent tells before
 
-  part-loss-all : Tells false → Keeps → (candidates : Option (List Candidate)) → AllExtend config 0 [] lines old (down old) candidates (after_part_loss config volume candidates)
+  part-loss-all : Tells false → Keeps → (candidates : Option (List Candidate)) → AllExtend config [] lines old (down old) candidates (after_part_loss config volume candidates)
   part-loss-all tells keeps None = refl
   part-loss-all tells keeps (Some before) = part-moved-all config (lost_with config volume) lines old (down old) (down-rises old) silent tells keeps before
 
-  roll-all : Tells true → (candidates : Option (List Candidate)) → AllExtend config 0 [] lines old (with_volume volume old) candidates (after_roll volume candidates)
+  roll-all : Tells true → (candidates : Option (List Candidate)) → AllExtend config [] lines old (with_volume volume old) candidates (after_roll volume candidates)
   roll-all tells None = refl
   roll-all tells (Some before) = moved-all config (without volume) lines old (with_volume volume old) (with-rises volume old) silent tells before
 
-  part-roll-all : Tells true → Keeps → (candidates : Option (List Candidate)) → AllExtend config 0 [] lines old (down old) candidates (after_part_roll volume candidates)
+  part-roll-all : Tells true → Keeps → (candidates : Option (List Candidate)) → AllExtend config [] lines old (down old) candidates (after_part_roll volume candidates)
   part-roll-all tells keeps None = refl
   part-roll-all tells keeps (Some before) = part-moved-all config (without volume) lines old (down old) (down-rises old) silent tells keeps before
 
@@ -218,25 +205,20 @@ back-knows volume state None knows = tt
 back-knows volume state (Some standings) knows = λ up t is one.
     let found = from-each (with_back volume) t standings one in
     let was = before state.up up is in
-    let both = knows was.0 found.0 was.1 found.1 in
-    (was.2 ∙ both.0 ∙ ap (λ (c : Candidate). epoch_of c.list) found.2, was.3 ∙ both.1 ∙ ap (λ (c : Candidate). length c.list + 1) found.2)
+    was.2 ∙ knows was.0 found.0 was.1 found.1 ∙ ap (λ (c : Candidate). epoch_of c.list) found.2
   where
-    before : (o : Option Up) (up : Up) → (with_volume volume (record state { up = o })).up ≡ Some up → (u : Up) × (o ≡ Some u) × (up.epoch ≡ u.epoch) × (up.place ≡ u.place)
+    before : (o : Option Up) (up : Up) → (with_volume volume (record state { up = o })).up ≡ Some up → (u : Up) × (o ≡ Some u) × (up.epoch ≡ u.epoch)
     before None up is = absurd (cc is)
-    before (Some u) up is = let same : up_with_volume volume u ≡ up = cc is in (u, refl, ap (λ (x : Up). x.epoch) (sym same), ap (λ (x : Up). x.place) (sym same))
-
--- of a node with this state and these standings what is so of it
-into : (after : Node) (state : NodeState) (candidates : Option (List Candidate)) (P : NodeState → Option (List Candidate) → Type 0) → after.state ≡ state → after.candidates ≡ candidates → P state candidates → P after.state after.candidates
-into after state candidates P states mays p = subst (λ s. P s after.candidates) (sym states) (subst (λ m. P state m) (sym mays) p)
+    before (Some u) up is = let same : up_with_volume volume u ≡ up = cc is in (u, refl, ap (λ (x : Up). x.epoch) (sym same))
 
 pub down-knows : (state : NodeState) (candidates : Option (List Candidate)) → state.up ≡ None → KnowsList state candidates
 down-knows state None none = tt
 down-knows state (Some standings) none = λ up s is one. absurd (none-some up (sym none ∙ is))
 
 -- a step that adds nothing: its lines tell of no commit
-quiet-step : (config : Config) (most : ℕ) (node after : Node) (lines : List Line) (done : Action) → AreSilent lines → KnowsList after.state after.candidates → after.state.formatted ≡ node.state.formatted
-    → AllExtend config most [] lines node.state after.state node.candidates after.candidates → Step config most node lines after done
-quiet-step config most node after lines done silent knows formatted extends = record {
+quiet-step : (config : Config) (node after : Node) (lines : List Line) (done : Action) → AreSilent lines → KnowsList after.state after.candidates → after.state.formatted ≡ node.state.formatted
+    → AllExtend config [] lines node.state after.state node.candidates after.candidates → Step config node lines after done
+quiet-step config node after lines done silent knows formatted extends = record {
   runs = [];
   of_action = tt;
   knows = knows;
@@ -246,31 +228,22 @@ quiet-step config most node after lines done silent knows formatted extends = re
 }
 
 -- an action after which the same may stand, and the node is as it was
-stays : (config : Config) (node after : Node) (lines : List Line) (done : Action) → KnowsList node.state node.candidates → after ≡ node → AreQuiet lines → Step config 0 node lines after done
+stays : (config : Config) (node after : Node) (lines : List Line) (done : Action) → KnowsList node.state node.candidates → after ≡ node → AreQuiet lines → Step config node lines after done
 stays config node after lines done knows is quiet =
-    subst (λ a. Step config 0 node lines a done) (sym is) (quiet-step config 0 node node lines done (silent-of lines quiet) knows refl (same-all config lines node.state node.state node.candidates quiet (λ list. omega arith)))
+    subst (λ a. Step config node lines a done) (sym is) (quiet-step config node node lines done (silent-of lines quiet) knows refl (same-all config lines node.state node.state node.candidates quiet (λ list. omega arith)))
 
 -- where each image may stand for what stood, with the next Start or without it
-stop-step : (config : Config) (node after : Node) (lines : List Line) (kill : Option ℕ) → after ≡ stopped_node node → AreQuiet lines → Step config 0 node lines after (action.Recover kill)
+stop-step : (config : Config) (node after : Node) (lines : List Line) (kill : Option ℕ) → after ≡ stopped_node node → AreQuiet lines → Step config node lines after (action.Recover kill)
 stop-step config node after lines kill is quiet =
-    subst (λ a. Step config 0 node lines a (action.Recover kill)) (sym is)
-    (quiet-step config 0 node (stopped_node node) lines (action.Recover kill) (silent-of lines quiet) (down-knows (down node.state) (after_stop node.candidates) refl) refl (stop-all config lines node.state node.candidates quiet))
+    subst (λ a. Step config node lines a (action.Recover kill)) (sym is)
+    (quiet-step config node (stopped_node node) lines (action.Recover kill) (silent-of lines quiet) (down-knows (down node.state) (after_stop node.candidates) refl) refl (stop-all config lines node.state node.candidates quiet))
 
 -- lines of which none is an outcome
-quiet-one : (line : Line) (lines : List Line) → acknowledged_by line ≡ None → is_formatted line ≡ false → move_of line ≡ None → lines ≡ line ∷ [] → AreQuiet lines
+quiet-one : (line : Line) (lines : List Line) → place_told line ≡ None → is_formatted line ≡ false → move_of line ≡ None → lines ≡ line ∷ [] → AreQuiet lines
 quiet-one line lines quiet unformatted still is = subst AreQuiet (sym is) (((quiet, unformatted), still), tt)
 
-silent-one : (line : Line) (lines : List Line) → acknowledged_by line ≡ None → is_formatted line ≡ false → lines ≡ line ∷ [] → AreSilent lines
+silent-one : (line : Line) (lines : List Line) → place_told line ≡ None → is_formatted line ≡ false → lines ≡ line ∷ [] → AreSilent lines
 silent-one line lines quiet unformatted is = subst AreSilent (sym is) ((quiet, unformatted), tt)
-
--- the outcomes of first items are those of fewer first items, too
-outcomes-front : (config : Config) (epoch place : ℕ) (items : List Item) (m : RecordMap) (done next : List Outcome) → AreOutcomes config epoch place items m (done ++ next) → AreOutcomes config epoch place items m done
-outcomes-front config epoch place items m done next all = record {
-  few = omega (arith, length-append done next, all.few);
-  each = λ n o at.
-      let within = slice_get_within done n o at in
-      subst (λ before. IsOutcome config epoch place items m before n o) (take-append-le n done next (omega (arith, within))) (all.each n o (slice_get-front done next n within ∙ at));
-}
 
 -- what holds of each of two
 each-of-two : {T : Type 0} (P : T → Type 0) (x y t : T) → OneOf (λ o. o ≡ t) (x ∷ y ∷ []) → P x → P y → P t
@@ -278,37 +251,17 @@ each-of-two P x y t (inl here) px py = subst P here px
 each-of-two P x y t (inr (inl here)) px py = subst P here py
 each-of-two P x y t (inr (inr none)) px py = absurd none
 
-pub all-weaker-most : (config : Config) (least most : ℕ) (runs : List RunDone) (lines : List Line) (old new : NodeState) (candidates after : Option (List Candidate)) → least ≤ most → AllExtend config least runs lines old new candidates after → AllExtend config most runs lines old new candidates after
-all-weaker-most config least most runs lines old new None after less is = is
-all-weaker-most config least most runs lines old new (Some before) after less (others, is, each) = (
-  others,
-  is,
-  λ t one.
-      let from = each t one in
-      (from.0, from.1, extend-weaker config least most (next_run old.up from.0.list) (next_run new.up t.list) runs lines from.0 t less from.2),
-)
-
-all-quiet : (config : Config) (most : ℕ) (runs : List RunDone) (lines more : List Line) (old new : NodeState) (candidates after : Option (List Candidate)) → AreQuiet more → AllExtend config most runs lines old new candidates after → AllExtend config most runs (lines ++ more) old new candidates after
-all-quiet config most runs lines more old new None after quiet is = is
-all-quiet config most runs lines more old new (Some before) after quiet (others, is, each) = (
-  others,
-  is,
-  λ t one.
-      let from = each t one in
-      (from.0, from.1, extend-quiet config most (next_run old.up from.0.list) (next_run new.up t.list) runs lines more from.0 t quiet from.2),
-)
-
-all-more : (config : Config) (most : ℕ) (first more : List RunDone) (lines others : List Line) (a b c : NodeState) (one two three : Option (List Candidate)) → AllExtend config 0 first lines a b one two → AllExtend config most more others b c two three
-    → AllExtend config most (first ++ more) (lines ++ others) a c one three
-all-more config most first more lines others a b c None two three is later = subst (λ m. AllExtend config most more others b c m three) is later
-all-more config most first more lines others a b c (Some before) two three (standings, is, each) later =
-    let behind = subst (λ m. AllExtend config most more others b c m three) is later in (
+all-more : (config : Config) (first more : List RunDone) (lines others : List Line) (a b c : NodeState) (one two three : Option (List Candidate)) → AllExtend config first lines a b one two → AllExtend config more others b c two three
+    → AllExtend config (first ++ more) (lines ++ others) a c one three
+all-more config first more lines others a b c None two three is later = subst (λ m. AllExtend config more others b c m three) is later
+all-more config first more lines others a b c (Some before) two three (standings, is, each) later =
+    let behind = subst (λ m. AllExtend config more others b c m three) is later in (
       behind.0,
       behind.1,
       λ u one.
           let at = behind.2 u one in
           let from = each at.0 at.1 in
-          (from.0, from.1, extend-more config most (next_run a.up from.0.list) (next_run b.up at.0.list) (next_run c.up u.list) first more lines others from.0 at.0 u from.2 at.2),
+          (from.0, from.1, extend-more config (next_run a.up from.0.list) (next_run b.up at.0.list) (next_run c.up u.list) first more lines others from.0 at.0 u from.2 at.2),
     )
 
 -- a node for a run is up
@@ -317,17 +270,16 @@ up-of config phase state up may = (unless-some (λ u. workers_name_lost config u
 
 module _ {D : Type 0} (held : D → Held) (faults : D → ℕ) (config : Config) where
   continues-all : (lines : List Line) (old : NodeState) (formatted : Bool) (printed : ℕ) (candidates after : Option (List Candidate)) (list : List MonitorRecord) (lost : List ℕ) → OneIsLeft candidates list lost after → AreQuiet lines
-      → let state : NodeState = record { up = Some (record { epoch = next_epoch list; place = length list + 2; lost = lost_flags lost }); formatted = formatted; printed = printed } in KnowsList state after × AllExtend config 0 [] lines old state candidates after
+      → let state : NodeState = record { up = Some (record { epoch = next_epoch list; lost = lost_flags lost }); formatted = formatted; printed = printed } in KnowsList state after × AllExtend config [] lines old state candidates after
   continues-all lines old formatted printed None after list lost is quiet =
-      let state : NodeState = record { up = Some (record { epoch = next_epoch list; place = length list + 2; lost = lost_flags lost }); formatted = formatted; printed = printed } in
+      let state : NodeState = record { up = Some (record { epoch = next_epoch list; lost = lost_flags lost }); formatted = formatted; printed = printed } in
       (subst (KnowsList state) (sym is) tt, is)
   continues-all lines old formatted printed (Some before) after list lost is quiet =
       let s : Candidate = record { list = list; map = is.0; lost = lost } in
-      let now : Up = record { epoch = next_epoch list; place = length list + 2; lost = lost_flags lost } in
+      let now : Up = record { epoch = next_epoch list; lost = lost_flags lost } in
       let state : NodeState = record { up = Some now; formatted = formatted; printed = printed } in (
         subst (KnowsList state) (sym is.2) (λ up t was one. ⊎_elim
-            (λ here. subst (λ (u : Candidate). (up.epoch ≡ epoch_of u.list) × (up.place ≡ length u.list + 1)) here
-            (subst (λ (u : Up). (u.epoch ≡ epoch_of (with_start s).list) × (u.place ≡ length (with_start s).list + 1)) (up_same now up was) (sym (start-epoch list), omega (arith, length-append list (Start (next_epoch list) ∷ [])))))
+            (λ here. subst (λ (u : Candidate). up.epoch ≡ epoch_of u.list) here (subst (λ (u : Up). u.epoch ≡ epoch_of (with_start s).list) (up_same now up was) (sym (start-epoch list))))
             (λ none. absurd none) one),
         (
           with_start s ∷ [],
@@ -336,7 +288,7 @@ module _ {D : Type 0} (held : D → Held) (faults : D → ℕ) (config : Config)
             s,
             is.1,
             ⊎_elim
-                (λ here. subst (λ u. Extends config 0 (next_run old.up list) (epoch_of u.list) [] lines s u) here
+                (λ here. subst (λ u. Extends config (next_run old.up list) (epoch_of u.list) [] lines s u) here
                 (extend-start config (next_run old.up list) (epoch_of (with_start s).list) lines s (start-rises old.up (Some now) list) quiet))
                 (λ none. absurd none) one,
           ),
@@ -346,13 +298,13 @@ module _ {D : Type 0} (held : D → Held) (faults : D → ℕ) (config : Config)
       up_same : (a b : Up) → Some a ≡ Some b → a ≡ b
       up_same a b e = ap (λ o. unwrap_or o a) e
 
-  recover-step : (node after : Node) (old new : List (Fuse D)) (lines : List Line) (kill : Option ℕ) → KnowsList node.state node.candidates → Recovers held faults config node old lines after new → Step config 0 node lines after (action.Recover kill)
+  recover-step : (node after : Node) (old new : List (Fuse D)) (lines : List Line) (kill : Option ℕ) → KnowsList node.state node.candidates → Recovers held faults config node old lines after new → Step config node lines after (action.Recover kill)
   recover-step node after old new lines kill knows (inl (formatted, lines_are, same, devices)) = stays config node after lines (action.Recover kill) knows same (quiet-one _ lines refl refl refl lines_are)
   recover-step node after old new lines kill knows (inr (inl (formatted, whole))) =
       let quiet = subst AreQuiet (sym whole.printed) (quiet-recovered config node.state.printed whole.list (lost_among whole.images (length config.volumes)) (next_epoch whole.list)) in
       let all = continues-all lines node.state true (max node.state.printed (length whole.list)) node.candidates after.candidates whole.list (lost_among whole.images (length config.volumes)) whole.stands quiet in
-      quiet-step config 0 node after lines (action.Recover kill) (silent-of lines quiet) (subst (λ s. KnowsList s after.candidates) (sym whole.state) all.0) (ap (λ (s : NodeState). s.formatted) whole.state ∙ sym formatted)
-      (subst (λ s. AllExtend config 0 [] lines node.state s node.candidates after.candidates) (sym whole.state) all.1)
+      quiet-step config node after lines (action.Recover kill) (silent-of lines quiet) (subst (λ s. KnowsList s after.candidates) (sym whole.state) all.0) (ap (λ (s : NodeState). s.formatted) whole.state ∙ sym formatted)
+      (subst (λ s. AllExtend config [] lines node.state s node.candidates after.candidates) (sym whole.state) all.1)
   recover-step node after old new lines kill knows (inr (inr (formatted, refused))) = stop-step config node after lines kill refused.stopped (subst AreQuiet (sym refused.printed) (quiet-line refused.error refused.line refused.is_line, tt))
     where
       quiet-line : (error : RecoverError) (line : Line) → IsRecoveryLine config error line → IsQuiet line
@@ -361,29 +313,29 @@ module _ {D : Type 0} (held : D → Held) (faults : D → ℕ) (config : Config)
       quiet-line recovery.EpochsSpent line is = subst IsQuiet (sym is) ((refl, refl), refl)
       quiet-line recovery.NoMemory line is = absurd is
 
-  list-step : (node after : Node) (old new : List (Fuse D)) (lines : List Line) (file : ℕ) → KnowsList node.state node.candidates → Lists held faults config file node old lines after new → Step config 0 node lines after (action.List file)
+  list-step : (node after : Node) (old new : List (Fuse D)) (lines : List Line) (file : ℕ) → KnowsList node.state node.candidates → Lists held faults config file node old lines after new → Step config node lines after (action.List file)
   list-step node after old new lines file knows (inl (not_up, lines_are, same, devices)) = stays config node after lines (action.List file) knows same (quiet-one _ lines refl refl refl lines_are)
   list-step node after old new lines file knows (inr (up, same, hold, inl listed)) = stays config node after lines (action.List file) knows same (subst AreQuiet (sym listed.2) (quiet-listed _ listed.0))
   list-step node after old new lines file knows (inr (up, same, hold, inr failed)) = stays config node after lines (action.List file) knows same (quiet-one _ lines refl refl refl failed.2)
 
-  lose-step : (node after : Node) (old new : List (Fuse D)) (lines : List Line) (volume : ℕ) → Loses held faults config volume node old lines after new → Step config 0 node lines after (action.Lose volume)
+  lose-step : (node after : Node) (old new : List (Fuse D)) (lines : List Line) (volume : ℕ) → Loses held faults config volume node old lines after new → Step config node lines after (action.Lose volume)
   lose-step node after old new lines volume (leaves, inl (lines_are, gone, is)) =
       let silent : AreSilent lines = silent-one _ lines refl refl lines_are in
       let tells : Tells config volume lines node.state silent false = λ lost. subst (λ l. MayHaveLost config l lost (lost_behind config volume false lost)) (sym lines_are) (tells-whole config volume (Removed (volume_name config volume)) false true refl lost) in
-      subst (λ a. Step config 0 node lines a (action.Lose volume)) (sym is)
-      (quiet-step config 0 node (lost_node config volume node) lines (action.Lose volume) silent (down-knows (down node.state) (after_loss config volume node.candidates) refl) refl
+      subst (λ a. Step config node lines a (action.Lose volume)) (sym is)
+      (quiet-step config node (lost_node config volume node) lines (action.Lose volume) silent (down-knows (down node.state) (after_loss config volume node.candidates) refl) refl
       (loss-all config volume lines node.state silent tells node.candidates))
   lose-step node after old new lines volume (leaves, inr (failed, is)) =
       let silent : AreSilent lines = silent-one _ lines refl refl failed.2 in
       let tells : Tells config volume lines node.state silent false = λ lost. subst (λ l. MayHaveLost config l lost (lost_behind config volume false lost)) (sym failed.2) (tells-whole config volume (LoseFailed (volume_name config volume)) false false refl lost) in
       let keeps : Keeps config volume lines node.state silent = λ lost. subst (λ l. MayHaveLost config l lost lost) (sym failed.2) (tells-part config volume (LoseFailed (volume_name config volume)) false refl lost) in
-      subst (λ a. Step config 0 node lines a (action.Lose volume)) (sym is)
-      (quiet-step config 0 node (part_lost_node config volume node) lines (action.Lose volume) silent (down-knows (down node.state) (after_part_loss config volume node.candidates) refl) refl
+      subst (λ a. Step config node lines a (action.Lose volume)) (sym is)
+      (quiet-step config node (part_lost_node config volume node) lines (action.Lose volume) silent (down-knows (down node.state) (after_part_loss config volume node.candidates) refl) refl
       (part-loss-all config volume lines node.state silent tells keeps node.candidates))
 
   -- a rollforward that was refused adds nothing
   refused-step : (node : Node) (lines : List Line) (volume : ℕ) (kill : Option ℕ) (error : RollError) (line : Line) → KnowsList node.state node.candidates → IsRollLine config volume error line → lines ≡ line ∷ []
-      → Step config 0 node lines (unrolled_node volume error node) (action.Rollforward volume kill)
+      → Step config node lines (unrolled_node volume error node) (action.Rollforward volume kill)
   refused-step node lines volume kill roll.NotLost line knows is printed =
       stays config node node lines (action.Rollforward volume kill) knows refl (quiet-one _ lines refl refl refl (printed ∙ ap (λ l. l ∷ []) is))
   refused-step node lines volume kill roll.NoDump line knows is printed =
@@ -393,177 +345,85 @@ module _ {D : Type 0} (held : D → Held) (faults : D → ℕ) (config : Config)
       let silent : AreSilent lines = silent-one _ lines refl refl lines_are in
       let tells : Tells config volume lines node.state silent true = λ lost. subst (λ l. MayHaveLost config l lost (lost_behind config volume true lost)) (sym lines_are) (tells-whole config volume (RollFailed (volume_name config volume) (node_device_name config device)) true false refl lost) in
       let keeps : Keeps config volume lines node.state silent = λ lost. subst (λ l. MayHaveLost config l lost lost) (sym lines_are) (tells-part config volume (RollFailed (volume_name config volume) (node_device_name config device)) true refl lost) in
-      quiet-step config 0 node (unrolled_node volume (roll.Failed device) node) lines (action.Rollforward volume kill) silent (down-knows (down node.state) (after_part_roll volume node.candidates) refl) refl
+      quiet-step config node (unrolled_node volume (roll.Failed device) node) lines (action.Rollforward volume kill) silent (down-knows (down node.state) (after_part_roll volume node.candidates) refl) refl
       (part-roll-all config volume lines node.state silent tells keeps node.candidates)
   refused-step node lines volume kill (roll.Damaged device damage) line knows is printed =
       let quiet : AreQuiet lines = quiet-one _ lines refl refl refl (printed ∙ ap (λ l. l ∷ []) is) in
-      quiet-step config 0 node (unrolled_node volume (roll.Damaged device damage) node) lines (action.Rollforward volume kill) (silent-of lines quiet) (down-knows (down node.state) node.candidates refl) refl
+      quiet-step config node (unrolled_node volume (roll.Damaged device damage) node) lines (action.Rollforward volume kill) (silent-of lines quiet) (down-knows (down node.state) node.candidates refl) refl
       (same-all config lines node.state (down node.state) node.candidates quiet (down-rises node.state))
   refused-step node lines volume kill roll.NoMemory line knows is printed = absurd is
 
   roll-step : (node after : Node) (old new : List (Fuse D)) (lines : List Line) (volume : ℕ) (kill : Option ℕ) → KnowsList node.state node.candidates → Rolls held faults config volume node old lines after new
-      → Step config 0 node lines after (action.Rollforward volume kill)
+      → Step config node lines after (action.Rollforward volume kill)
   roll-step node after old new lines volume kill knows (inl (not_up, lines_are, same, devices)) = stays config node after lines (action.Rollforward volume kill) knows same (quiet-one _ lines refl refl refl lines_are)
   roll-step node after old new lines volume kill knows (inr (leaves, inl whole)) =
       let silent : AreSilent lines = silent-one _ lines refl refl whole.printed in
       let tells : Tells config volume lines node.state silent true = λ lost. subst (λ l. MayHaveLost config l lost (lost_behind config volume true lost)) (sym whole.printed) (tells-whole config volume (Rolled (volume_name config volume) whole.next) true true refl lost) in
-      subst (λ a. Step config 0 node lines a (action.Rollforward volume kill)) (sym whole.rolled)
-      (quiet-step config 0 node (rolled_node volume node) lines (action.Rollforward volume kill) silent (back-knows volume node.state node.candidates knows) refl (roll-all config volume lines node.state silent tells node.candidates))
+      subst (λ a. Step config node lines a (action.Rollforward volume kill)) (sym whole.rolled)
+      (quiet-step config node (rolled_node volume node) lines (action.Rollforward volume kill) silent (back-knows volume node.state node.candidates knows) refl (roll-all config volume lines node.state silent tells node.candidates))
   roll-step node after old new lines volume kill knows (inr (leaves, inr refused)) =
-      subst (λ a. Step config 0 node lines a (action.Rollforward volume kill)) (sym refused.refused)
+      subst (λ a. Step config node lines a (action.Rollforward volume kill)) (sym refused.refused)
       (refused-step node lines volume kill refused.error refused.line knows refused.is_line refused.printed)
 
   -- the one run of an action
   abbrev pub one_done : Up → Phase → List RunDone
   one_done up phase = record { epoch = up.epoch; phase = phase } ∷ []
 
-  -- a run behind which these outcomes stand, and of which the first have their lines, extends what it was begun on
-  one-run : (most : ℕ) (phase : Phase) (node : Node) (up : Up) (lines : List Line) (s : Candidate) (done next all : List Outcome) → IsSingle config phase → node.state.up ≡ Some up → (up.epoch ≡ epoch_of s.list) × (up.place ≡ length s.list + 1)
-      → lines ≡ outcome_lines config done → all ≡ done ++ next → length next ≤ most → AreOutcomes config up.epoch up.place (items_of phase) s.map all
-      → let left = with_outcomes (items_of phase) up.epoch all s in Extends config most (next_run node.state.up s.list) (suc (epoch_of left.list)) (one_done up phase) lines s left
-  one-run most phase node up lines s done next all single was_up of printed both few outcomes =
-      let left = with_outcomes (items_of phase) up.epoch all s in
-      let runs : List RunDone = one_done up phase in
-      subst (λ o. Extends config most (next_run o s.list) (suc (epoch_of left.list)) runs lines s left) (sym was_up)
-      (subst (λ l. Extends config most (epoch_of s.list) (suc (epoch_of left.list)) runs l s left) (sym printed)
-      (extend-run most config up.epoch up.place phase s done next all single both few of.0 of.1 outcomes))
-
-  run-all : (phase : Phase) (node after : Node) (old : List (Fuse D)) (lines : List Line) → IsSingle config phase → KnowsList node.state node.candidates → (whole : RunsWhole held config phase node old lines after)
-      → AllExtend config 0 (one_done whole.up phase) lines node.state (down node.state) node.candidates after.candidates
-  run-all phase node after old lines single knows whole = of-may node.candidates after.candidates knows whole.stands
+  -- each of what stands behind a whole run extends what it was begun on
+  run-all : (phase : Phase) (node after : Node) (old new : List (Fuse D)) (lines : List Line) → KnowsList node.state node.candidates → (whole : RunsWhole held faults config phase node old lines after new)
+      → AllExtend config (one_done whole.up phase) lines node.state (down node.state) node.candidates after.candidates
+  run-all phase node after old new lines knows whole = of-may node.candidates after.candidates knows whole.stands
     where
-      of-may : (candidates left : Option (List Candidate)) → KnowsList node.state candidates → AllItemsDone config whole.up (items_of phase) candidates whole.done left → AllExtend config 0 (one_done whole.up phase) lines node.state (down node.state) candidates left
-      of-may None left known is = is.1
-      of-may (Some before) left known (s, one, outcomes, is) =
-          let extends = one-run 0 phase node whole.up lines s whole.done [] whole.done single (up-of config phase node.state whole.up whole.was_up) (known whole.up s (up-of config phase node.state whole.up whole.was_up) one) whole.printed (sym (append-nil whole.done)) (omega arith) outcomes in (
-            with_outcomes (items_of phase) whole.up.epoch whole.done s ∷ [],
-            is,
-            λ t is. (s, one, ⊎_elim (λ here. subst (λ u. Extends config 0 (next_run node.state.up s.list) (suc (epoch_of u.list)) (one_done whole.up phase) lines s u) here extends) (λ none. absurd none) is),
-          )
+      was_up : node.state.up ≡ Some whole.up
+      was_up = up-of config phase node.state whole.up whole.was_up
 
-  -- the same of a run that was stopped: commits may be in flight, as many as its items that may
-  part-all : (phase : Phase) (node after : Node) (old new : List (Fuse D)) (lines : List Line) → IsSingle config phase → KnowsList node.state node.candidates → (why : RunError) (part : RunsPart held faults config phase node old lines after new why)
-      → AllExtend config (run_in_flight why) (one_done part.up phase) lines node.state (down node.state) node.candidates after.candidates
-  part-all phase node after old new lines single knows why part = of-may node.candidates after.candidates knows part.stands
-    where
-      most : ℕ
-      most = run_in_flight why
-
-      of-may : (candidates left : Option (List Candidate)) → KnowsList node.state candidates → FirstItemsDone config part.up (items_of phase) most candidates part.done left
-          → AllExtend config most (one_done part.up phase) lines node.state (down node.state) candidates left
-      of-may None left known is = is.1
-      of-may (Some before) left known (s, next, one, few, outcomes, is) =
-          let of = known part.up s (up-of config phase node.state part.up part.was_up) one in
-          let front = outcomes-front config part.up.epoch part.up.place (items_of phase) s.map part.done next outcomes in (
-            with_outcomes (items_of phase) part.up.epoch part.done s ∷ with_outcomes (items_of phase) part.up.epoch (part.done ++ next) s ∷ [],
-            is,
-            λ t is. (
-              s,
-              one,
-              each-of-two (λ u. Extends config most (next_run node.state.up s.list) (suc (epoch_of u.list)) (one_done part.up phase) lines s u) (with_outcomes (items_of phase) part.up.epoch part.done s) (with_outcomes (items_of phase) part.up.epoch (part.done ++ next) s) t is
-                  (one-run most phase node part.up lines s part.done [] part.done single (up-of config phase node.state part.up part.was_up) of part.printed (sym (append-nil part.done)) (omega arith) front)
-                  (one-run most phase node part.up lines s part.done next (part.done ++ next) single (up-of config phase node.state part.up part.was_up) of part.printed refl few outcomes),
-            ),
-          )
-
-  -- the same of a run on threads: no commit is in flight of which no line tells
-  threads-all : (phase : Phase) (node after : Node) (old new : List (Fuse D)) (lines : List Line) → ¬ IsSingle config phase → KnowsList node.state node.candidates → (ran : RunsOnThreads held faults config phase node old lines after new)
-      → AllExtend config 0 (one_done ran.up phase) lines node.state (down node.state) node.candidates after.candidates
-  threads-all phase node after old new lines many knows ran = of-may node.candidates after.candidates knows ran.stands
-    where
-      was_up : node.state.up ≡ Some ran.up
-      was_up = up-of config phase node.state ran.up ran.was_up
-
-      of-may : (candidates left : Option (List Candidate)) → KnowsList node.state candidates → OneGoesOn config phase ran.up.epoch (held_at held ran.opened) ran.outcomes candidates left → AllExtend config 0 (one_done ran.up phase) lines node.state (down node.state) candidates left
+      of-may : (candidates left : Option (List Candidate)) → KnowsList node.state candidates → OneGoesOn config phase whole.up.epoch (held_at held whole.opened) whole.outcomes candidates left
+          → AllExtend config (one_done whole.up phase) lines node.state (down node.state) candidates left
       of-may None left known is = is
       of-may (Some before) left known (s, one, is_up, goes) =
-          let of = known ran.up s was_up one in
-          let landed = with_records phase ran.up.epoch goes.landed s in
-          let offered = with_records phase ran.up.epoch (goes.landed ++ goes.offered) s in (
+          let of = known whole.up s was_up one in
+          let landed = with_records phase whole.up.epoch goes.landed s in
+          let offered = with_records phase whole.up.epoch (goes.landed ++ goes.offered) s in (
             landed ∷ offered ∷ [],
             goes.candidates,
             λ t is. (
               s,
               one,
-              subst (λ o. Extends config 0 (next_run o s.list) (suc (epoch_of t.list)) (one_done ran.up phase) lines s t) (sym was_up)
-                  (subst (λ l. Extends config 0 (epoch_of s.list) (suc (epoch_of t.list)) (one_done ran.up phase) l s t) (sym ran.printed)
-                  (each-of-two (λ u. Extends config 0 (epoch_of s.list) (suc (epoch_of u.list)) (one_done ran.up phase) (run_lines config ran.outcomes) s u) landed offered t is
-                  (extend-landed config phase ran.up.epoch s ran.outcomes left many of.0 ran.ran.attempts goes)
-                  (extend-offered config phase ran.up.epoch s ran.outcomes left many of.0 ran.ran.attempts goes))),
+              subst (λ o. Extends config (next_run o s.list) (suc (epoch_of t.list)) (one_done whole.up phase) lines s t) (sym was_up)
+                  (subst (λ l. Extends config (epoch_of s.list) (suc (epoch_of t.list)) (one_done whole.up phase) l s t) (sym whole.printed)
+                  (each-of-two (λ u. Extends config (epoch_of s.list) (suc (epoch_of u.list)) (one_done whole.up phase) (run_lines config whole.outcomes) s u) landed offered t is
+                  (extend-landed config phase whole.up.epoch s whole.outcomes left of whole.ran.attempts goes)
+                  (extend-offered config phase whole.up.epoch s whole.outcomes left of whole.ran.attempts goes))),
             ),
           )
 
-  whole-step : (phase : Phase) (node after : Node) (old : List (Fuse D)) (lines : List Line) → IsSingle config phase → KnowsList node.state node.candidates → RunsWhole held config phase node old lines after → Step config 0 node lines after (action.Run phase)
-  whole-step phase node after old lines single knows whole = record {
+  whole-step : (phase : Phase) (node after : Node) (old new : List (Fuse D)) (lines : List Line) → KnowsList node.state node.candidates → RunsWhole held faults config phase node old lines after new → Step config node lines after (action.Run phase)
+  whole-step phase node after old new lines knows whole = record {
     runs = one_done whole.up phase;
     of_action = (refl, tt);
     knows = subst (λ s. KnowsList s after.candidates) (sym whole.state) (down-knows (down node.state) after.candidates refl);
-    extends = subst (λ s. AllExtend config 0 (one_done whole.up phase) lines node.state s node.candidates after.candidates) (sym whole.state) (run-all phase node after old lines single knows whole);
+    extends = subst (λ s. AllExtend config (one_done whole.up phase) lines node.state s node.candidates after.candidates) (sym whole.state) (run-all phase node after old new lines knows whole);
     formatted = ap (λ (s : NodeState). s.formatted) whole.state;
-    unformatted = subst (AllByRecursion (λ line. is_formatted line ≡ false)) (sym whole.printed) (outcomes-unformatted config whole.done);
-  }
-
-  threads-step : (phase : Phase) (node after : Node) (old new : List (Fuse D)) (lines : List Line) → ¬ IsSingle config phase → KnowsList node.state node.candidates → RunsOnThreads held faults config phase node old lines after new
-      → Step config 0 node lines after (action.Run phase)
-  threads-step phase node after old new lines many knows ran = record {
-    runs = one_done ran.up phase;
-    of_action = (refl, tt);
-    knows = subst (λ s. KnowsList s after.candidates) (sym ran.state) (down-knows (down node.state) after.candidates refl);
-    extends = subst (λ s. AllExtend config 0 (one_done ran.up phase) lines node.state s node.candidates after.candidates) (sym ran.state) (threads-all phase node after old new lines many knows ran);
-    formatted = ap (λ (s : NodeState). s.formatted) ran.state;
-    unformatted = subst (AllByRecursion (λ line. is_formatted line ≡ false)) (sym ran.printed) (run-unformatted config ran.outcomes);
+    unformatted = subst (AllByRecursion (λ line. is_formatted line ≡ false)) (sym whole.printed) (run-unformatted config whole.outcomes);
   }
 
   -- a run that takes the node down, and of which no worker has begun, adds nothing
-  idle-step : (phase : Phase) (node after : Node) (lines : List Line) → after ≡ down_node node → AreQuiet lines → Step config 0 node lines after (action.Run phase)
+  idle-step : (phase : Phase) (node after : Node) (lines : List Line) → after ≡ down_node node → AreQuiet lines → Step config node lines after (action.Run phase)
   idle-step phase node after lines is quiet =
-      subst (λ a. Step config 0 node lines a (action.Run phase)) (sym is)
-      (quiet-step config 0 node (down_node node) lines (action.Run phase) (silent-of lines quiet) (down-knows (down node.state) node.candidates refl) refl
+      subst (λ a. Step config node lines a (action.Run phase)) (sym is)
+      (quiet-step config node (down_node node) lines (action.Run phase) (silent-of lines quiet) (down-knows (down node.state) node.candidates refl) refl
       (same-all config lines node.state (down node.state) node.candidates quiet (down-rises node.state)))
 
-  run-step : (phase : Phase) (node after : Node) (old new : List (Fuse D)) (lines : List Line) → KnowsList node.state node.candidates → Runs held faults config phase node old lines after new → Step config 0 node lines after (action.Run phase)
+  run-step : (phase : Phase) (node after : Node) (old new : List (Fuse D)) (lines : List Line) → KnowsList node.state node.candidates → Runs held faults config phase node old lines after new → Step config node lines after (action.Run phase)
   run-step phase node after old new lines knows (inl (not_up, lines_are, same, devices)) = stays config node after lines (action.Run phase) knows same (quiet-one _ lines refl refl refl lines_are)
-  run-step phase node after old new lines knows (inr (inl (single, whole, dumps))) = whole-step phase node after old lines single knows whole
-  run-step phase node after old new lines knows (inr (inr (many, inl ran))) = threads-step phase node after old new lines many knows ran
-  run-step phase node after old new lines knows (inr (inr (many, inr not_run))) =
+  run-step phase node after old new lines knows (inr (inl whole)) = whole-step phase node after old new lines knows whole
+  run-step phase node after old new lines knows (inr (inr not_run)) =
       idle-step phase node after lines not_run.left (subst AreQuiet (sym not_run.printed) (quiet-line not_run.error not_run.line not_run.is_line, tt))
     where
       quiet-line : (error : PhaseError) (line : Line) → IsRunLine config error line → IsQuiet line
       quiet-line (phase_error.Failed device) line is = subst IsQuiet (sym is) ((refl, refl), refl)
       quiet-line (phase_error.Damaged device damage) line is = subst IsQuiet (sym is) ((refl, refl), refl)
       quiet-line phase_error.NoMemory line is = absurd is
-
-  part-step : (phase : Phase) (node after : Node) (old new : List (Fuse D)) (lines : List Line) → IsSingle config phase → KnowsList node.state node.candidates → (why : RunError) (part : RunsPart held faults config phase node old lines after new why)
-      → Step config (run_in_flight why) node lines after (action.Run phase)
-  part-step phase node after old new lines single knows why part = record {
-    runs = one_done part.up phase;
-    of_action = (refl, tt);
-    knows = subst (λ s. KnowsList s after.candidates) (sym part.state) (down-knows (down node.state) after.candidates refl);
-    extends = subst (λ s. AllExtend config (run_in_flight why) (one_done part.up phase) lines node.state s node.candidates after.candidates) (sym part.state) (part-all phase node after old new lines single knows why part);
-    formatted = ap (λ (s : NodeState). s.formatted) part.state;
-    unformatted = subst (AllByRecursion (λ line. is_formatted line ≡ false)) (sym part.printed) (outcomes-unformatted config part.done);
-  }
-
-  -- so many commits may be in flight behind an action: none, or one where it is a run in which the device of the monitor trail has failed
-  abbrev pub RoseFirst : List (Fuse D) → List (Fuse D) → ℕ → Type 0
-  RoseFirst old new most = (most ≡ 0) ⊎ ((most ≡ 1) × RoseAt faults old new 0)
-
-  abbrev pub Flying : Action → Node → List (Fuse D) → List (Fuse D) → ℕ → Type 0
-  Flying done node old new most = (most ≡ 0) ⊎ ((most ≡ 1) × ((run : IsRunUp config done node) × IsSingle config run.0) × RoseAt faults old new 0)
-
-  -- a run that the device of a volume stopped has done nothing; one that the monitor trail's has may have left a commit in flight
-  part-flying : (candidates : Option (List Candidate)) (items : List Item) (old new : List (Fuse D)) (done : List Outcome) (why : RunError) → IsCausedRun held faults config candidates items old new done why
-      → IsUndone held old new done ⊎ RoseFirst old new (run_in_flight why)
-  part-flying candidates items old new done (run.Stopped stop.NoMemory) caused = inr (inl refl)
-  part-flying candidates items old new done (run.Stopped (stop.Failed device)) caused = ⊎_elim (λ trail. inr (from (device == 0) refl)) (λ volume. inl (caused.1 volume)) caused.0.0
-    where
-      from : (b : Bool) → (device == 0) ≡ b → RoseFirst old new (if b then 1 else 0)
-      from true is = inr (refl, subst (RoseAt faults old new) (eqb-true device 0 is) caused.0.1)
-      from false is = inl refl
-  part-flying candidates items old new done (run.Stopped (stop.Damaged device)) caused = absurd caused
-  part-flying candidates items old new done (run.Spent disc) caused = inr (inl refl)
-  part-flying candidates items old new done (run.Crowded file) caused = inr (inl refl)
-  part-flying candidates items old new done (run.Lost volume) caused = absurd caused
 
   -- a format begins anew, or leaves the node unformatted
   abbrev pub Anew : Node → List Line → Type 0
@@ -572,8 +432,9 @@ module _ {D : Type 0} (held : D → Held) (faults : D → ℕ) (config : Config)
   format-knows : (node after : Node) (old new : List (Fuse D)) (lines : List Line) → Formats held faults config node old lines after new → KnowsList after.state after.candidates × Anew after lines
   format-knows node after old new lines (inl (lines_are, is, dumps)) = (
     subst (λ (a : Node). KnowsList a.state a.candidates) (sym is)
-        (λ up s was one. ⊎_elim (λ here. subst (λ (u : Candidate). (up.epoch ≡ epoch_of u.list) × (up.place ≡ length u.list + 1)) here
-        (subst (λ (u : Up). (u.epoch ≡ 1) × (u.place ≡ 2)) (up_same (record { epoch = 1; place = 2; lost = none_lost }) up was) (refl, refl))) (λ none. absurd none) one),
+        (λ up s was one. ⊎_elim
+        (λ here. subst (λ (u : Candidate). up.epoch ≡ epoch_of u.list) here (subst (λ (u : Up). u.epoch ≡ 1) (up_same (record { epoch = 1; lost = none_lost }) up was) refl))
+        (λ none. absurd none) one),
     inl (is, lines_are),
   )
     where
@@ -598,10 +459,10 @@ module _ {D : Type 0} (held : D → Held) (faults : D → ℕ) (config : Config)
       all-weaker (λ run. Contains more (action.Run run.phase)) (λ run. Contains (actions ++ more) (action.Run run.phase)) (λ run is. Contains-append_right actions more (action.Run run.phase) is) runs of
 
   -- what an action does to the headline: it begins anew, or goes on by a step
-  abbrev pub Turn : ℕ → Node → List Line → Node → Action → Type 0
-  Turn most node lines after done = (KnowsList after.state after.candidates × Anew after lines) ⊎ Step config most node lines after done
+  abbrev pub Turn : Node → List Line → Node → Action → Type 0
+  Turn node lines after done = (KnowsList after.state after.candidates × Anew after lines) ⊎ Step config node lines after done
 
-  does-turn : (done : Action) (node after : Node) (old new : List (Fuse D)) (lines : List Line) → KnowsList node.state node.candidates → Does held faults config done node old lines after new → Turn 0 node lines after done
+  does-turn : (done : Action) (node after : Node) (old new : List (Fuse D)) (lines : List Line) → KnowsList node.state node.candidates → Does held faults config done node old lines after new → Turn node lines after done
   does-turn action.Format node after old new lines knows does = inl (format-knows node after old new lines does)
   does-turn (action.Recover kill) node after old new lines knows does = inr (recover-step node after old new lines kill knows does)
   does-turn (action.Run phase) node after old new lines knows does = inr (run-step phase node after old new lines knows does)
@@ -609,36 +470,16 @@ module _ {D : Type 0} (held : D → Held) (faults : D → ℕ) (config : Config)
   does-turn (action.Rollforward volume kill) node after old new lines knows does = inr (roll-step node after old new lines volume kill knows does)
   does-turn (action.List file) node after old new lines knows does = inr (list-step node after old new lines file knows does)
 
-  -- an action that was broken off has done nothing
-  pub record IsIdle (old new : List (Fuse D)) (node : Node) (lines : List Line) (after : Node) : Type 0 where
-    pub silent : lines ≡ []
-    pub same : HoldSame held old new
-    pub formatted : after.state.formatted ≡ node.state.formatted
-
-  -- what such an action leaves
-  abbrev pub TurnsFlying : List (Fuse D) → List (Fuse D) → Node → List Line → Node → Action → Type 0
-  TurnsFlying old new node lines after done = IsIdle old new node lines after ⊎ ((most : ℕ) × Flying done node old new most × Turn most node lines after done)
-
-  run-turn : (phase : Phase) (node after : Node) (old new : List (Fuse D)) (lines : List Line) → IsSingle config phase → KnowsList node.state node.candidates → (why : RunError) → (part : RunsPart held faults config phase node old lines after new why)
-      → IsUndone held old new part.done ⊎ RoseFirst old new (run_in_flight why) → TurnsFlying old new node lines after (action.Run phase)
-  run-turn phase node after old new lines single knows why part (inl undone) =
-      inl (record { silent = part.printed ∙ ap (outcome_lines config) undone.0; same = undone.1; formatted = ap (λ (s : NodeState). s.formatted) part.state })
-  run-turn phase node after old new lines single knows why part (inr flying) =
-      inr (run_in_flight why, ⊎_elim inl (λ rose. inr (rose.0, ((phase, refl, λ none. none-some part.up (sym none ∙ part.was_up)), single), rose.1)) flying, inr (part-step phase node after old new lines single knows why part))
-
-  breaks-turn : (done : Action) (node after : Node) (old new : List (Fuse D)) (lines : List Line) → KnowsList node.state node.candidates → (why : RunError) → Breaks held faults config why done node old lines after new → TurnsFlying old new node lines after done
-  breaks-turn action.Format node after old new lines knows why (memory, none, is) =
-      inr (0, inl refl, inl (subst (λ (a : Node). KnowsList a.state a.candidates) (sym is) tt, inr (ap (λ (a : Node). a.candidates) is, ap (λ (a : Node). a.state.formatted) is)))
-  breaks-turn (action.Recover kill) node after old new lines knows why (memory, none, is) = inr (0, inl refl, inr (stop-step config node after lines kill is (subst AreQuiet (sym none) tt)))
-  breaks-turn (action.Run phase) node after old new lines knows why (inl (memory, not_up, none, is)) = inr (0, inl refl, inr (stays config node after lines (action.Run phase) knows is (subst AreQuiet (sym none) tt)))
-  breaks-turn (action.Run phase) node after old new lines knows why (inr (inl (single, part))) =
-      run-turn phase node after old new lines single knows why part (part-flying node.candidates (items_of phase) old new part.done why part.caused)
-  breaks-turn (action.Run phase) node after old new lines knows why (inr (inr (many, memory, inl (up, none, is, same)))) =
-      inl (record { silent = none; same = same; formatted = ap (λ (a : Node). a.state.formatted) is })
-  breaks-turn (action.Run phase) node after old new lines knows why (inr (inr (many, memory, inr ran))) = inr (0, inl refl, inr (threads-step phase node after old new lines many knows ran))
-  breaks-turn (action.Lose volume) node after old new lines knows why (memory, none, is, same) = inr (0, inl refl, inr (stays config node after lines (action.Lose volume) knows is (subst AreQuiet (sym none) tt)))
-  breaks-turn (action.Rollforward volume kill) node after old new lines knows why (memory, none, is, same) = inr (0, inl refl, inr (stays config node after lines (action.Rollforward volume kill) knows is (subst AreQuiet (sym none) tt)))
-  breaks-turn (action.List file) node after old new lines knows why (memory, none, is) = inr (0, inl refl, inr (stays config node after lines (action.List file) knows is (subst AreQuiet (sym none) tt)))
+  breaks-turn : (done : Action) (node after : Node) (old new : List (Fuse D)) (lines : List Line) → KnowsList node.state node.candidates → Breaks held faults config done node old lines after new → Turn node lines after done
+  breaks-turn action.Format node after old new lines knows (none, is) =
+      inl (subst (λ (a : Node). KnowsList a.state a.candidates) (sym is) tt, inr (ap (λ (a : Node). a.candidates) is, ap (λ (a : Node). a.state.formatted) is))
+  breaks-turn (action.Recover kill) node after old new lines knows (none, is) = inr (stop-step config node after lines kill is (subst AreQuiet (sym none) tt))
+  breaks-turn (action.Run phase) node after old new lines knows (inl (not_up, none, is)) = inr (stays config node after lines (action.Run phase) knows is (subst AreQuiet (sym none) tt))
+  breaks-turn (action.Run phase) node after old new lines knows (inr (inl (up, none, is, same))) = inr (idle-step phase node after lines is (subst AreQuiet (sym none) tt))
+  breaks-turn (action.Run phase) node after old new lines knows (inr (inr whole)) = inr (whole-step phase node after old new lines knows whole)
+  breaks-turn (action.Lose volume) node after old new lines knows (none, is, same) = inr (stays config node after lines (action.Lose volume) knows is (subst AreQuiet (sym none) tt))
+  breaks-turn (action.Rollforward volume kill) node after old new lines knows (none, is, same) = inr (stays config node after lines (action.Rollforward volume kill) knows is (subst AreQuiet (sym none) tt))
+  breaks-turn (action.List file) node after old new lines knows (none, is) = inr (stays config node after lines (action.List file) knows is (subst AreQuiet (sym none) tt))
 
   -- the origin lies behind some of the actions
   abbrev pub IsLater : Node → List Line → Type 0
@@ -654,8 +495,8 @@ module _ {D : Type 0} (held : D → Held) (faults : D → ℕ) (config : Config)
   anew-later origin middle first earlier anew (inr later) = longer origin first earlier later
 
   -- the headline of more actions, where it begins behind the first of them
-  later-headline : (done : Action) (rest : List Action) (before middle after : Node) (first more lines : List Line) → lines ≡ first ++ more → (ends : EndsByScript config 0 rest middle after more) → IsLater ends.origin (first ++ ends.earlier)
-      → EndsByScript config 0 (done ∷ rest) before after lines
+  later-headline : (done : Action) (rest : List Action) (before middle after : Node) (first more lines : List Line) → lines ≡ first ++ more → (ends : EndsByScript config rest middle after more) → IsLater ends.origin (first ++ ends.earlier)
+      → EndsByScript config (done ∷ rest) before after lines
   later-headline done rest before middle after first more lines parts ends later = record {
     origin = ends.origin;
     earlier = first ++ ends.earlier;
@@ -673,7 +514,7 @@ module _ {D : Type 0} (held : D → Held) (faults : D → ℕ) (config : Config)
   -- The headline of a whole row of actions.
   pub call_headline : CallHeadline held faults config
   call_headline [] before after old new lines knows told =
-      subst (λ a. EndsByScript config 0 [] before a lines) (sym told.1)
+      subst (λ a. EndsByScript config [] before a lines) (sym told.1)
       (record {
         origin = before;
         earlier = [];
@@ -703,10 +544,10 @@ module _ {D : Type 0} (held : D → Held) (faults : D → ℕ) (config : Config)
         formatted = ends.formatted ∙ ap (λ (o : Node). o.state.formatted) at.0 ∙ step.formatted;
         runs = step.runs ++ ends.runs;
         of_script = all-append (λ run. Contains (done ∷ rest) (action.Run run.phase)) step.runs ends.runs (first-of done rest step.runs step.of_action) (more-of done rest ends.runs ends.of_script);
-        extends = subst (λ l. AllExtend config 0 (step.runs ++ ends.runs) l before.state after.state before.candidates after.candidates) (sym parts)
-            (all-more config 0 step.runs ends.runs first more before.state middle.state after.state before.candidates middle.candidates after.candidates step.extends
-            (subst (λ l. AllExtend config 0 ends.runs l middle.state after.state middle.candidates after.candidates) (sym (ends.parts ∙ ap (λ l. l ++ ends.later) at.1))
-            (subst (λ (o : Node). AllExtend config 0 ends.runs ends.later o.state after.state o.candidates after.candidates) at.0 ends.extends)));
+        extends = subst (λ l. AllExtend config (step.runs ++ ends.runs) l before.state after.state before.candidates after.candidates) (sym parts)
+            (all-more config step.runs ends.runs first more before.state middle.state after.state before.candidates middle.candidates after.candidates step.extends
+            (subst (λ l. AllExtend config ends.runs l middle.state after.state middle.candidates after.candidates) (sym (ends.parts ∙ ap (λ l. l ++ ends.later) at.1))
+            (subst (λ (o : Node). AllExtend config ends.runs ends.later o.state after.state o.candidates after.candidates) at.0 ends.extends)));
         knows = ends.knows;
       })
       (λ known. later-headline done rest before middle after first more lines parts ends (longer ends.origin first ends.earlier known))
@@ -714,9 +555,9 @@ module _ {D : Type 0} (held : D → Held) (faults : D → ℕ) (config : Config)
       (does-turn done before middle old between first knows does)
 
   -- one more action behind a row of them
-  ends-more : (most : ℕ) (actions : List Action) (done : Action) (before middle after : Node) (lines more : List Line) → EndsByScript config 0 actions before middle lines → Step config most middle more after done
-      → EndsByScript config most (actions ++ done ∷ []) before after (lines ++ more)
-  ends-more most actions done before middle after lines more ends step = record {
+  ends-more : (actions : List Action) (done : Action) (before middle after : Node) (lines more : List Line) → EndsByScript config actions before middle lines → Step config middle more after done
+      → EndsByScript config (actions ++ done ∷ []) before after (lines ++ more)
+  ends-more actions done before middle after lines more ends step = record {
     origin = ends.origin;
     earlier = ends.earlier;
     later = ends.later ++ more;
@@ -727,13 +568,13 @@ module _ {D : Type 0} (held : D → Held) (faults : D → ℕ) (config : Config)
     runs = ends.runs ++ step.runs;
     of_script = all-append (λ run. Contains (actions ++ done ∷ []) (action.Run run.phase)) ends.runs step.runs (front-of actions (done ∷ []) ends.runs ends.of_script)
         (behind-of actions (done ∷ []) step.runs (first-of done [] step.runs step.of_action));
-    extends = all-more config most ends.runs step.runs ends.later more ends.origin.state middle.state after.state ends.origin.candidates middle.candidates after.candidates ends.extends step.extends;
+    extends = all-more config ends.runs step.runs ends.later more ends.origin.state middle.state after.state ends.origin.candidates middle.candidates after.candidates ends.extends step.extends;
     knows = step.knows;
   }
 
   -- a format behind them
-  ends-anew : (most : ℕ) (actions : List Action) (before after : Node) (lines more : List Line) → KnowsList after.state after.candidates → Anew after more → EndsByScript config most actions before after (lines ++ more)
-  ends-anew most actions before after lines more knows anew = record {
+  ends-anew : (actions : List Action) (before after : Node) (lines more : List Line) → KnowsList after.state after.candidates → Anew after more → EndsByScript config actions before after (lines ++ more)
+  ends-anew actions before after lines more knows anew = record {
     origin = after;
     earlier = lines ++ more;
     later = [];
@@ -743,40 +584,21 @@ module _ {D : Type 0} (held : D → Held) (faults : D → ℕ) (config : Config)
     formatted = refl;
     runs = [];
     of_script = tt;
-    extends = all-weaker-most config 0 most [] [] after.state after.state after.candidates after.candidates (omega arith) (same-all config [] after.state after.state after.candidates tt (λ list. omega arith));
+    extends = same-all config [] after.state after.state after.candidates tt (λ list. omega arith);
     knows = knows;
   }
 
   -- the headline of a row of actions and of one more
-  turned : (most : ℕ) (actions : List Action) (done : Action) (before middle after : Node) (lines more : List Line) → EndsByScript config 0 actions before middle lines → Turn most middle more after done
-      → EndsByScript config most (actions ++ done ∷ []) before after (lines ++ more)
-  turned most actions done before middle after lines more ends (inl anew) = ends-anew most (actions ++ done ∷ []) before after lines more anew.0 anew.1
-  turned most actions done before middle after lines more ends (inr step) = ends-more most actions done before middle after lines more ends step
+  turned : (actions : List Action) (done : Action) (before middle after : Node) (lines more : List Line) → EndsByScript config actions before middle lines → Turn middle more after done
+      → EndsByScript config (actions ++ done ∷ []) before after (lines ++ more)
+  turned actions done before middle after lines more ends (inl anew) = ends-anew (actions ++ done ∷ []) before after lines more anew.0 anew.1
+  turned actions done before middle after lines more ends (inr step) = ends-more actions done before middle after lines more ends step
 
   -- The headline where a script ended in an action that was done or broken off: with the lines that this action had to print.
   pub last_headline : (actions : List Action) (done : Action) (before middle after : Node) (old between new : List (Fuse D)) (lines more : List Line) → KnowsList before.state before.candidates
-      → ToldBy held faults config actions before old lines middle between → Does held faults config done middle between more after new ⊎ ((why : RunError) × Breaks held faults config why done middle between more after new)
-      → IsIdle between new middle more after ⊎ ((most : ℕ) × Flying done middle between new most × EndsByScript config most (actions ++ done ∷ []) before after (lines ++ more))
+      → ToldBy held faults config actions before old lines middle between → Does held faults config done middle between more after new ⊎ Breaks held faults config done middle between more after new
+      → EndsByScript config (actions ++ done ∷ []) before after (lines ++ more)
   last_headline actions done before middle after old between new lines more knows told begun =
       let ends = call_headline actions before middle old between lines knows told in
-      ⊎_elim
-      (λ does. inr (0, inl refl, turned 0 actions done before middle after lines more ends (does-turn done middle after between new more ends.knows does)))
-      (λ broken.
-      ⊎_elim inl (λ turn. inr (turn.0, turn.1, turned turn.0 actions done before middle after lines more ends turn.2)) (breaks-turn done middle after between new more ends.knows broken.0 broken.1))
-      begun
-
--- The headline with more lines behind that tell of no commit.
-pub ends-quiet : (config : Config) (most : ℕ) (actions : List Action) (before after : Node) (lines more : List Line) → AreQuiet more → EndsByScript config most actions before after lines → EndsByScript config most actions before after (lines ++ more)
-ends-quiet config most actions before after lines more quiet ends = record {
-  origin = ends.origin;
-  earlier = ends.earlier;
-  later = ends.later ++ more;
-  parts = ap (λ l. l ++ more) ends.parts ∙ append_assoc ends.earlier ends.later more;
-  is_origin = ends.is_origin;
-  unformatted = all-append (λ line. is_formatted line ≡ false) ends.later more ends.unformatted (quiet-unformatted more quiet);
-  formatted = ends.formatted;
-  runs = ends.runs;
-  of_script = ends.of_script;
-  extends = all-quiet config most ends.runs ends.later more ends.origin.state after.state ends.origin.candidates after.candidates quiet ends.extends;
-  knows = ends.knows;
-}
+      turned actions done before middle after lines more ends
+      (⊎_elim (λ does. does-turn done middle after between new more ends.knows does) (λ broken. breaks-turn done middle after between new more ends.knows broken) begun)

@@ -12,10 +12,10 @@ pub mod Dumps
 pub mod Examples
 pub mod Extending
 pub mod FailedCalls
+pub mod Falls
 pub mod Faultless
 pub mod FaultlessLines
 pub mod Headlines
-pub mod Items
 pub mod Listings
 pub mod Losses
 pub mod Naming
@@ -24,11 +24,9 @@ pub mod Openings
 pub mod Playing
 pub mod PrintedCounts
 pub mod Promises
-pub mod Ran
 pub mod Resting
 pub mod RolledBays
 pub mod Rollings
-pub mod Singles
 pub mod Sources
 pub mod Standings
 pub mod Statuses
@@ -37,5 +35,4 @@ pub mod Endings
 pub mod OnThreads
 pub mod Unbroken
 pub mod Undamaged
-pub mod Undone
 pub mod VolumeLoss

@@ -9,8 +9,6 @@ use Rattle.std.proofs.lemmas.Option.{slice_get_within}
 use Rattle.disk_model.specs.Held.{Held, File, Leaves, LeavesAt, LeavesFile}
 use Rattle.tmf_model.specs.declared.config.Config.{Config}
 use Rattle.tmf_model.specs.declared.config.Volume.{Volume}
-use Rattle.tmf_model.specs.declared.script.Item.{Item}
-use Rattle.tmf_model.specs.declared.script.Item.TheVariants.{Transaction as TransactionItem, Control, Dump}
 use Rattle.trail_files.specs.Landed.{IsSettled}
 use Rattle.trail_files.specs.StandsFor.{Base, IsNumber}
 use Rattle.keyed_file.specs.declared.label.Label.{Label}
@@ -18,7 +16,7 @@ use Rattle.keyed_file.specs.Volume.{Contents, IsLost, SpellsVolume, label_of}
 use Rattle.block_cache.specs.LabelDamage.{IsFineLabel}
 use Rattle.block_cache.specs.Volume.{HasBase, HasNoLabel, RestsFor}
 use Rattle.volume_restore.proofs.Restoring.{item-of}
-use Rattle.volume_restore.specs.Bases.{next_behind, recovered_from, volume_on}
+use Rattle.volume_restore.specs.Bases.{next_behind, recovered_from}
 use Rattle.volume_recovery.specs.VolumeAnswers.{is_lost, lost_among, numbers_to}
 use Rattle.volume_recovery.specs.VolumeNode.{volume_device}
 use Rattle.volume_recovery.specs.VolumeRecovery.{MayLeave}
@@ -27,10 +25,8 @@ use Rattle.block_cache.specs.Whole.{IsOnTheWay}
 use Rattle.tmf_model.specs.RecordMap.{RecordMap}
 use Rattle.trail_files.specs.declared.audit_record.AuditRecord.{AuditRecord}
 use Rattle.trail_files.specs.declared.monitor_record.MonitorRecord.{MonitorRecord}
-use Rattle.one_worker.specs.Loading.{IsNamedLost, item_names}
-use Rattle.one_worker.proofs.Files.{volume_on-line}
 use Rattle.tmf_cli.specs.declared.node.Up.{Up}
-use Rattle.tmf_cli.specs.Lost.{AreLost, is_among, is_lost_volume, item_names_lost, lost_flags, names_lost, unless}
+use Rattle.tmf_cli.specs.Lost.{AreLost, is_among, is_lost_volume, lost_flags, unless}
 
 -- OF ONE IMAGE
 
@@ -250,29 +246,3 @@ unless-there is_so o some = of (unless is_so o) refl
     of : (found : Option Up) → unless is_so o ≡ found → (up : Up) × (unless is_so o ≡ Some up)
     of None is = absurd (some is)
     of (Some up) is = (up, is)
-
--- what one test finds another one finds
-any-so : {T : Type 0} (p q : T → Bool) → ((x : T) → p x ≡ true → q x ≡ true) → (xs : List T) → list_any p xs ≡ true → list_any q xs ≡ true
-any-so p q so [] is = is
-any-so p q so (x ∷ xs) is = of (p x) (q x) (so x) (any-so p q so xs) is
-  where
-    of : (a b : Bool) → (a ≡ true → b ≡ true) → (list_any p xs ≡ true → list_any q xs ≡ true) → (a || list_any p xs) ≡ true → (b || list_any q xs) ≡ true
-    of true b here rest found = ap (λ (c : Bool). c || list_any q xs) (here refl)
-    of false true here rest found = refl
-    of false false here rest found = rest found
-
--- items of a run that may begin are on no file of a lost volume
-pub unnamed : (config : Config) (held : ℕ → Held) (lost : List Bool) (items : List Item) (volume : ℕ) (line : Volume) → IsNumber config.volumes volume line → AreLost config held lost → names_lost config lost items ≡ false
-    → IsNamedLost config held items volume → ⊥
-unnamed config held lost items volume line is are none named =
-    let flagged : is_lost_volume lost volume ≡ true = sym (are volume line is) ∙ lost-is (held (volume_device volume)) named.lost in
-    let on : volume_on config named.file ≡ volume = volume_on-line config named.file named.line named.is_file ∙ named.on_volume in
-    let found = any-so (item_names named.file) (item_names_lost config lost) (λ item so. in-item named.file item flagged on so) items named.named in
-    absurd (cc (sym none ∙ found))
-  where
-    in-item : (file : ℕ) (item : Item) → is_lost_volume lost volume ≡ true → volume_on config file ≡ volume → item_names file item ≡ true → item_names_lost config lost item ≡ true
-    in-item file (TransactionItem transaction) flagged on so =
-        any-so (λ step. step.file == file) (λ step. is_lost_volume lost (volume_on config step.file))
-        (λ step at. ap (λ n. is_lost_volume lost (volume_on config n)) (eqb-true step.file file at) ∙ ap (is_lost_volume lost) on ∙ flagged) transaction.steps so
-    in-item file (Control other) flagged on so = absurd (cc so)
-    in-item file (Dump other) flagged on so = absurd (cc so)

@@ -16,7 +16,6 @@ use Rattle.tmf_model.specs.Config.{IsNumber, IsValidConfig}
 use Rattle.tmf_model.specs.Script.{IsValidItem, IsValidPhase, IsValidStep, IsValidWorker}
 use Rattle.volume_restore.specs.Bases.{volume_on}
 use Rattle.volume_recovery.specs.VolumeNode.{volume_device}
-use Rattle.tmf_cli.specs.Single.{first_worker}
 use Rattle.tmf_cli.specs.Lost.{AreLost, is_lost_volume, item_names_lost, names_lost, workers_name_lost}
 use Rattle.tmf_cli.proofs.Losses.{lost-is, number-at}
 use Rattle.tmf_cli.proofs.Resting.{file-volume}
@@ -88,8 +87,3 @@ named-unlost config held lost phase valid is are none v among gone =
     let one = named-declared config phase valid is v among in
     let never : true ≡ false = sym (lost-is (held (volume_device v)) gone) ∙ are v one.0 one.1 ∙ named-unflagged config lost phase none v among in
     absurd (cc never)
-
--- where no item of any worker names a lost volume, none of the first one does
-pub first-unnamed : (config : Config) (lost : List Bool) (workers : List (List Item)) → workers_name_lost config lost workers ≡ false → names_lost config lost (first_worker workers) ≡ false
-first-unnamed config lost [] none = refl
-first-unnamed config lost (items ∷ rest) none = (or-none (names_lost config lost items) (workers_name_lost config lost rest) none).0

@@ -1,29 +1,23 @@
 -- The actions of a script as far as they have been carried out.
-use Rattle.std.specs.Prelude.{Option, Some, None, slice_get, Result, Ok, Err, OnOk, IfErr}
-use Rattle.std.proofs.Common.{zero, suc, ◌≡◌, ◌≤◌, ◌^◌, ◌-◌, ◌++◌, ◌∷◌, [], ℕ, List, Bool, refl, sym, ap, subst, ◌∙◌, inl, inr, ⊎_elim, arith}
+use Rattle.std.specs.Prelude.{Option, Some, None, slice_get}
+use Rattle.std.proofs.Common.{zero, suc, ◌≡◌, ◌≤◌, ◌^◌, ◌-◌, ◌++◌, ◌∷◌, [], ℕ, List, Bool, refl, sym, ap, subst, ◌∙◌, ⊎_elim, arith}
 use Rattle.std.proofs.lemmas.Bool.Decides.{leb_tells}
 use Rattle.std.proofs.lemmas.List.{append-nil, append_assoc}
 use Rattle.disk_model.specs.Held.{Held, Rose}
 use Rattle.disk_model.specs.Fuse.{cuts_of, device_of}
 use Rattle.disk_model.specs.declared.fuse.Fuse.{Fuse}
-use Rattle.trail_replay.specs.declared.stop.Stop.{Stop}
-use Rattle.trail_replay.specs.declared.stop.Stop.TheVariants.{NoMemory, Failed, Damaged}
 use Rattle.tmf_model.specs.declared.config.Config.{Config}
 use Rattle.tmf_model.specs.declared.script.Action.{Action}
 use Rattle.tmf_lines.specs.declared.line.Line.{Line}
 use Rattle.tmf_cli.specs.declared.node.NodeState.{NodeState}
-use Rattle.tmf_lines.specs.declared.output.GiveFault.{GiveFault as GiveFaultOf}
-use Rattle.tmf_lines.specs.declared.output.GiveFault.TheVariants.{NoMemory as GiveFaultNoMemory, SinkFailed}
-use Rattle.tmf_cli.specs.declared.status.ScriptEnd.{ScriptEnd}
-use Rattle.tmf_cli.specs.declared.status.ScriptEnd.TheVariants.{GiveFault, Stopped}
-use Rattle.tmf_cli.specs.BetweenActions.{Knows, HasDone, HasBroken, AreMade, RestartsTimes, OthersRestarted, node_of}
+use Rattle.tmf_lines.specs.declared.output.GiveFault.{GiveFault}
+use Rattle.tmf_cli.specs.BetweenActions.{Knows, RestartsTimes, OthersRestarted, node_of}
 use Rattle.tmf_lines.specs.Line.{lines_text, IsNotGiven}
 use Rattle.tmf_cli.specs.ActionGiven.{HasPlayed, EndsAction, EndsScript, KeepsSink}
 use Rattle.tmf_edges.specs.declared.sink.Sink as sink
-use Rattle.tmf_cli.specs.Status.{IsEndCaused, IsEndGiven, IsStopGiven, IsAnyGiven}
 use Rattle.tmf_cli.specs.Countdown.{IsSwitched, KeepsCounts, kill_of}
 use Rattle.tmf_cli.specs.Ending.{opening}
-use Rattle.tmf_cli.specs.OutputLaw.{Node, Candidate, MayStand, HasFailed, Does, ToldBy}
+use Rattle.tmf_cli.specs.OutputLaw.{Node, Candidate, MayStand, Does, ToldBy}
 use Rattle.disk_model.specs.Devices.{KeepTelling}
 use Rattle.tmf_cli.proofs.Bays.{each-old}
 use Rattle.tmf_lines.proofs.LineTexts.{lines_text-more}
@@ -115,103 +109,17 @@ others-then config tells restarts switched old mid new keep first second = λ nu
 pub others-none : {D : Type 0} (config : Config) (restarts : Fuse D → Fuse D → Type 0) (devices : List (Fuse D)) → OthersRestarted config restarts devices devices
 others-none config restarts devices = λ number before after out was is. (0, let same : Some after ≡ Some before = sym is ∙ was in let one : after ≡ before = cc in (ap device_of one, ap cuts_of one))
 
--- those that were given up to a device's end, behind some others
-pub any-more : (end : ScriptEnd) (before mid after : List ℕ) (lines : List Line) → mid ≡ before ++ lines_text lines → IsAnyGiven end mid after → IsAnyGiven end before after
-any-more (GiveFault fault) before mid after lines is given = tt
-any-more (Stopped stop) before mid after lines is given = (
-  lines ++ given.0,
-  given.1 ∙ ap (λ m. m ++ lines_text given.0) is ∙ append_assoc before (lines_text lines) (lines_text given.0) ∙ ap (λ t. before ++ t) (sym (lines_text-more lines given.0)),
-)
-
 -- a sink over two calls
 pub sink-then : {K : Type 0} (kind : sink.Ghosts K) (old mid new : K) → KeepsSink kind old mid → KeepsSink kind mid new → KeepsSink kind old new
 sink-then kind old mid new p q = record { tells = q.tells ∙ p.tells; later = omega (arith, p.later, q.later) }
 
--- a device that ended the script is the reason
-pub stop-caused : (failed : ℕ → Type 0) (stop : Stop) (sink sink_now : ℕ) → ((device : ℕ) → stop ≡ Failed device → failed device) → IsEndCaused failed (Stopped stop) sink sink_now
-stop-caused failed NoMemory sink sink_now cause = tt
-stop-caused failed (Failed device) sink sink_now cause = cause device refl
-stop-caused failed (Damaged device) sink sink_now cause = tt
-
-pub device-caused : (failed : ℕ → Type 0) (stop : Stop) (sink sink_now device : ℕ) → IsEndCaused failed (Stopped stop) sink sink_now → stop ≡ Failed device → failed device
-device-caused failed stop sink sink_now device cause is = subst (λ s. IsEndCaused failed (Stopped s) sink sink_now) is cause
-
--- so it is where the counts were lower before
-pub end-caused : (failed before_failed : ℕ → Type 0) (end : ScriptEnd) (before sink sink_now : ℕ) → before ≤ sink → ((device : ℕ) → failed device → before_failed device) → IsEndCaused failed end sink sink_now
-    → sink ≤ sink_now → IsEndCaused before_failed end before sink_now
-end-caused failed before_failed (GiveFault GiveFaultNoMemory) before sink sink_now le so cause more = tt
-end-caused failed before_failed (GiveFault SinkFailed) before sink sink_now le so cause more = rose-sink before sink sink_now le more cause
-end-caused failed before_failed (Stopped NoMemory) before sink sink_now le so cause more = tt
-end-caused failed before_failed (Stopped (Failed device)) before sink sink_now le so cause more = so device cause
-end-caused failed before_failed (Stopped (Damaged device)) before sink sink_now le so cause more = tt
-
--- no part of no lines is missing: where none were to be given, memory lacked
-fault-none : (fault : GiveFaultOf) (before after : List ℕ) (due : List Line) → IsNotGiven fault before after [] → IsNotGiven fault before after (lines_text due)
-fault-none GiveFaultNoMemory before after due given = given
-fault-none SinkFailed before after due given = absurd (omega (arith, given.short))
-
--- lines that were not all given are not all of those that the action had to print, or memory lacked for them
-fault-due : (fault : GiveFaultOf) (stop : Stop) (before after : List ℕ) (due lines : List Line) → AreMade stop due lines → IsNotGiven fault before after (lines_text lines) → IsNotGiven fault before after (lines_text due)
-fault-due fault NoMemory before after due lines made given = ⊎_elim (λ all. subst (λ ls. IsNotGiven fault before after (lines_text ls)) all given) (λ none. fault-none fault before after due (subst (λ ls. IsNotGiven fault before after (lines_text ls)) none given)) made
-fault-due fault (Failed device) before after due lines made given = subst (λ ls. IsNotGiven fault before after (lines_text ls)) made given
-fault-due fault (Damaged device) before after due lines made given = subst (λ ls. IsNotGiven fault before after (lines_text ls)) made given
-
--- lines that were given whole are all of those that the action had to print, or none for want of memory
-given-due : (stop : Stop) (before after : List ℕ) (due lines : List Line) → AreMade stop due lines → after ≡ before ++ lines_text lines → IsStopGiven stop before after due
-given-due NoMemory before after due lines made given =
-    ⊎_elim (λ all. inl (given ∙ ap (λ ls. before ++ lines_text ls) all)) (λ none. inr (given ∙ ap (λ ls. before ++ lines_text ls) none ∙ append-nil before)) made
-given-due (Failed device) before after due lines made given = given ∙ ap (λ ls. before ++ lines_text ls) made
-given-due (Damaged device) before after due lines made given = given ∙ ap (λ ls. before ++ lines_text ls) made
-
 module _ {D : Type 0} (held : D → Held) (faults : D → ℕ) (config : Config) where
-  -- the sink ended the script behind an action, or in one that was stopped
-  pub ends-fault : (action : Action) (node : Node) (old new : List (Fuse D)) (lines : List Line) (state : NodeState) (fault : GiveFaultOf) (sink : Type 0) (before after : List ℕ) (r : Result (Unit {0}) Stop)
-      → OnOk r (HasDone held faults config action node old lines state new) → IfErr r (λ stop. HasBroken held faults config action node old lines stop new) → (sink → IsNotGiven fault before after (lines_text lines)) → KeepsCounts faults (kill_of action ≡ None) old new
-      → EndsAction held faults config action node old new (GiveFault fault) sink before after
-  ends-fault action node old new lines state fault sink before after (Ok x) done broken given counts = record {
-    lines = lines;
-    left = node_of state done.candidates;
-    how = inl done.does;
-    run = tt;
-    given = given;
-    counts = counts;
-    stands = done.knows.stands;
-    undamaged = tt;
-    failed = λ device e. absurd (cc);
-  }
-  ends-fault action node old new lines state fault sink before after (Err stop) done broken given counts = record {
-    lines = broken.due;
-    left = broken.after;
-    how = inr (broken.why, broken.breaks);
-    run = tt;
-    given = λ tells. fault-due fault stop before after broken.due lines broken.made (given tells);
-    counts = counts;
-    stands = broken.stands;
-    undamaged = tt;
-    failed = λ device e. absurd (cc);
-  }
-
-  -- a device, or want of memory, ended the script in an action
-  pub ends-stopped : (action : Action) (node : Node) (old new : List (Fuse D)) (lines : List Line) (stop : Stop) (sink : Type 0) (before after : List ℕ) → HasBroken held faults config action node old lines stop new → (sink → after ≡ before ++ lines_text lines)
-      → KeepsCounts faults (kill_of action ≡ None) old new → ((device : ℕ) → stop ≡ Failed device → HasFailed faults config old new device) → EndsAction held faults config action node old new (Stopped stop) sink before after
-  ends-stopped action node old new lines stop sink before after broken given counts cause = record {
-    lines = broken.due;
-    left = broken.after;
-    how = (broken.why, broken.ends, broken.breaks);
-    run = broken.run;
-    given = λ tells. given-due stop before after broken.due lines broken.made (given tells);
-    counts = counts;
-    stands = broken.stands;
-    undamaged = broken.undamaged;
-    failed = λ device e. cause device (cc);
-  }
-
   -- an action that ended the script, behind those that were carried out
-  pub ends-script : (candidates : Option (List Candidate)) (actions done rest : List Action) (action : Action) (old now new : List (Fuse D)) (state : NodeState) (end : ScriptEnd) (sink : Type 0) (before given after : List ℕ)
+  pub ends-script : (candidates : Option (List Candidate)) (actions done rest : List Action) (action : Action) (old now new : List (Fuse D)) (state : NodeState) (fault : GiveFault) (sink : Type 0) (before given after : List ℕ)
       → (running : Running held faults config candidates old sink before done (action ∷ rest) state now given) → actions ≡ done ++ action ∷ rest
-      → EndsAction held faults config action (node_of state running.left) now new end sink given after
-      → EndsScript held faults config (opening candidates) actions old new end sink before after
-  ends-script candidates actions done rest action old now new state end sink before given after running parts ends = record {
+      → EndsAction held faults config action (node_of state running.left) now new fault sink given after
+      → EndsScript held faults config (opening candidates) actions old new fault sink before after
+  ends-script candidates actions done rest action old now new state fault sink before given after running parts ends = record {
     reaches = record {
       done = done;
       action = action;
@@ -226,11 +134,8 @@ module _ {D : Type 0} (held : D → Held) (faults : D → ℕ) (config : Config)
       lines = ends.lines;
       left = ends.left;
       how = ends.how;
-      run = ends.run;
-      given = λ tells. subst (λ g. IsEndGiven end g after ends.lines) (running.given_is tells) (ends.given tells);
-      counts = ends.counts;
+      given = λ tells. subst (λ g. IsNotGiven fault g after (lines_text ends.lines)) (running.given_is tells) (ends.given tells);
       stands = ends.stands;
-      undamaged = ends.undamaged;
-      failed = ends.failed;
+      counts = ends.counts;
     };
   }

@@ -1,9 +1,8 @@
 -- Over any devices, the lines of each action, and of a call, name no device more often than it has failed.
-use Rattle.std.specs.Prelude.{All, Option, Some, None}
+use Rattle.std.specs.Prelude.{Some, None}
 use Rattle.std.specs.List.{AllByRecursion}
-use Rattle.std.proofs.Common.{true, false, ◌≡◌, ◌≢◌, ◌⊎◌, ◌++◌, ◌∷◌, [], ℕ, List, refl, sym, ap, subst, ◌∙◌, inl, inr, ⊎_elim}
-use Rattle.std.proofs.lemmas.List.{append-nil}
-use Rattle.disk_model.specs.Devices.{NoneFalls, RoseAt, SameBut}
+use Rattle.std.proofs.Common.{◌≡◌, ◌++◌, ◌∷◌, [], ℕ, List, refl, sym, ap, subst, ◌∙◌, inl, inr}
+use Rattle.disk_model.specs.Devices.{NoneFalls, RoseAt}
 use Rattle.disk_model.specs.declared.disk.Disk as disk
 use Rattle.disk_model.specs.declared.fuse.Fuse.{Fuse}
 use Rattle.rollforward.specs.Rolls.{IsRollDevice}
@@ -11,8 +10,6 @@ use Rattle.rollforward.specs.declared.errors.RollError.{RollError}
 use Rattle.rollforward.specs.declared.errors.RollError.TheVariants as roll
 use Rattle.run_outcomes.specs.declared.outcome.PhaseError.{PhaseError}
 use Rattle.run_outcomes.specs.declared.outcome.PhaseError.TheVariants as phase_error
-use Rattle.trail_replay.specs.declared.stop.Stop.{Stop}
-use Rattle.trail_replay.specs.declared.stop.Stop.TheVariants as stop
 use Rattle.volume_recovery.specs.VolumeListing.{file_device}
 use Rattle.volume_recovery.specs.VolumeNode.{volume_device}
 use Rattle.volume_recovery.specs.declared.errors.ListError.{ListError}
@@ -20,9 +17,8 @@ use Rattle.volume_recovery.specs.declared.errors.ListError.TheVariants as listin
 use Rattle.volume_recovery.specs.declared.errors.RecoverError.{RecoverError}
 use Rattle.volume_recovery.specs.declared.errors.RecoverError.TheVariants as recovery
 use Rattle.tmf_lines.specs.declared.line.ActionKind.TheVariants as asked
-use Rattle.tmf_lines.specs.declared.line.DeviceTrouble.TheVariants as trouble
 use Rattle.tmf_lines.specs.declared.line.Line.{Line}
-use Rattle.tmf_lines.specs.declared.line.Line.TheVariants.{Failed, ListFailed, LoseFailed, RollFailed, RunFailed, Stopped}
+use Rattle.tmf_lines.specs.declared.line.Line.TheVariants.{Failed, ListFailed, LoseFailed, RollFailed, RunFailed}
 use Rattle.tmf_lines.specs.Report.{device_name, file_name_of, format_failure, node_device_name, volume_name}
 use Rattle.tmf_model.specs.Config.{IsDeclared, IsValidConfig}
 use Rattle.tmf_model.specs.Script.{IsValidAction}
@@ -31,15 +27,14 @@ use Rattle.tmf_model.specs.declared.script.Action.{Action}
 use Rattle.tmf_model.specs.declared.script.Action.TheVariants as action
 use Rattle.tmf_model.specs.declared.script.Phase.{Phase}
 use Rattle.tmf_cli.specs.declared.node.NodeState.{NodeState}
-use Rattle.tmf_cli.specs.AnyDevices.{Halts, HaltsRun, IsBlamed, IsLast, Prints, PrintsAll, PrintsNoList, PrintsNoRecovery, PrintsNoRoll, PrintsNoRun, Reached, first_state}
+use Rattle.tmf_cli.specs.AnyDevices.{IsLast, Prints, PrintsAll, PrintsNoList, PrintsNoRecovery, PrintsNoRoll, PrintsNoRun, Reached, first_state}
 use Rattle.tmf_cli.specs.BetweenActions.{IsListLine}
 use Rattle.tmf_cli.specs.Counts.{AreCounted, failed_of}
 use Rattle.tmf_cli.specs.OutputLaw.{FailedAmong, HasFailed, IsRecoveryLine, IsRollLine, IsRunLine}
-use Rattle.tmf_cli.specs.Top.{stop_lines}
-use Rattle.tmf_cli.proofs.CountedLines.{counted-behind, file-name, fine-lines, format-name, front-valid, node-name, plain-line, ran-counted, unfailed-all, volume-name}
+use Rattle.tmf_cli.proofs.CountedLines.{file-name, fine-lines, format-name, front-valid, node-name, plain-line, ran-counted, volume-name}
 use Rattle.tmf_cli.proofs.Counting.{AreUnfailed, counted-more, counted-none, counted-one}
-use Rattle.tmf_cli.proofs.FaultlessLines.{faultless-listed, faultless-outcomes, faultless-recovered}
-use Rattle.tmf_cli.proofs.OneOutputs.{falls-further, falls-itself}
+use Rattle.tmf_cli.proofs.Falls.{falls-further, falls-itself}
+use Rattle.tmf_cli.proofs.FaultlessLines.{faultless-listed, faultless-recovered}
 
 module _ {D : Type 0} (kind : disk.Ghosts D) (config : Config) where
   abbrev IsCounted : List Line → List (Fuse D) → List (Fuse D) → Type 0
@@ -113,9 +108,8 @@ module _ {D : Type 0} (kind : disk.Ghosts D) (config : Config) where
         fine-lines kind.held kind.faults config _ lines old new (faultless-recovered config state.printed p.list p.lost p.epoch) p.printed falls
     prints-counted (action.Recover kill) state after old new lines is falls (inr (formatted, inr p)) = no-recovery state after old new lines falls p
     prints-counted (action.Run phase) state after old new lines is falls (inl p) = plain _ lines old new refl p.1.0 falls
-    prints-counted (action.Run phase) state after old new lines is falls (inr (inl (single, p))) = fine-lines kind.held kind.faults config _ lines old new (faultless-outcomes config p.done) p.items.printed falls
-    prints-counted (action.Run phase) state after old new lines is falls (inr (inr (many, inl p))) = ran-counted kind config phase p.up.epoch old p.opened p.closed new p.on p.off p.outcomes p.ran lines p.printed
-    prints-counted (action.Run phase) state after old new lines is falls (inr (inr (many, inr p))) = no-run phase state after old new lines falls p
+    prints-counted (action.Run phase) state after old new lines is falls (inr (inl p)) = ran-counted kind config phase p.up.epoch old p.opened p.closed new p.on p.off p.outcomes p.ran lines p.printed
+    prints-counted (action.Run phase) state after old new lines is falls (inr (inr p)) = no-run phase state after old new lines falls p
     prints-counted (action.Lose volume) state after old new lines is falls (left, others, inl p) = plain _ lines old new refl p falls
     prints-counted (action.Lose volume) state after old new lines is falls (left, others, inr p) =
         counted-one kind.faults config (LoseFailed (volume_name config volume)) lines old new (volume_device volume) (ap Some (volume-name config valid volume is.above is.below)) p.2 falls (subst (RoseAt kind.faults old new) p.1.0 p.1.1)
@@ -136,35 +130,14 @@ module _ {D : Type 0} (kind : disk.Ghosts D) (config : Config) where
 
     -- THE LAST ONE
 
-    -- an action that was broken off tells of no failed call
-    halts-unfailed : (why : Stop) (done : Action) (state : NodeState) (old : List (Fuse D)) (lines : List Line) (new : List (Fuse D)) → Halts kind config why done state old lines new → AreUnfailed lines
-    halts-unfailed why action.Format state old lines new h = subst AreUnfailed (sym h.1) tt
-    halts-unfailed why (action.Recover kill) state old lines new h = subst AreUnfailed (sym h.1) tt
-    halts-unfailed why (action.Run phase) state old lines new (inl h) = subst AreUnfailed (sym h.1) tt
-    halts-unfailed why (action.Run phase) state old lines new (inr h) = subst AreUnfailed (sym h.items.printed) (unfailed-all _ (faultless-outcomes config h.done))
-    halts-unfailed why (action.Lose volume) state old lines new h = subst AreUnfailed (sym h.1) tt
-    halts-unfailed why (action.Rollforward volume kill) state old lines new h = subst AreUnfailed (sym h.1) tt
-    halts-unfailed why (action.List file) state old lines new h = subst AreUnfailed (sym h.1) tt
+    last-counted : (done : Action) (code : ℕ) (state : NodeState) (old new : List (Fuse D)) (more : List Line) → IsValidAction config done → NoneFalls kind.faults old new → IsLast kind config done code state old more new
+        → IsCounted more old new
+    last-counted done code state old new more is falls (inl (after, p)) = prints-counted done state after old new more is falls p
+    last-counted done code state old new more is falls (inr (memory, none)) = none-counted more old new none falls
 
-    -- the line of a stop is counted
-    stop-counted : (old new : List (Fuse D)) (why : Stop) → NoneFalls kind.faults old new → IsBlamed kind config why old new → IsCounted (stop_lines config why) old new
-    stop-counted old new stop.NoMemory falls cause = none-counted [] old new refl falls
-    stop-counted old new (stop.Failed device) falls cause =
-        let failed = cause device refl in
-        counted-one kind.faults config (Stopped (device_name config device) trouble.Failed) (stop_lines config (stop.Failed device)) old new device (ap Some (node-name config valid device failed.0)) refl falls failed.1
-    stop-counted old new (stop.Damaged device) falls cause = plain (Stopped (device_name config device) trouble.Damaged) (stop_lines config (stop.Damaged device)) old new refl refl falls
-
-    last-counted : (done : Action) (state : NodeState) (old new : List (Fuse D)) (more last : List Line) → IsValidAction config done → NoneFalls kind.faults old new → IsLast kind config done state old more last new → IsCounted (more ++ last) old new
-    last-counted done state old new more last is falls (inl (none, after, p)) =
-        subst (λ l. IsCounted l old new) (sym (append-nil more) ∙ ap (λ l. more ++ l) (sym none)) (prints-counted done state after old new more is falls p)
-    last-counted done state old new more last is falls (inr (why, h, inl none)) =
-        counted-behind kind.held kind.faults config valid more last old new (halts-unfailed why done state old more new h) (none-counted last old new none falls)
-    last-counted done state old new more last is falls (inr (why, h, inr (line, cause))) =
-        counted-behind kind.held kind.faults config valid more last old new (halts-unfailed why done state old more new h) (subst (λ l. IsCounted l old new) (sym line) (stop-counted old new why falls cause))
-
-    pub up-to-counted : (actions : List Action) (old new : List (Fuse D)) (at : Reached kind config actions old) (more last : List Line) → AllByRecursion (IsValidAction config) actions → NoneFalls kind.faults at.between new
-        → IsLast kind config at.action at.middle at.between more last new → IsCounted (at.lines ++ (more ++ last)) old new
-    up-to-counted actions old new at more last are falls ended =
+    pub up-to-counted : (actions : List Action) (old new : List (Fuse D)) (at : Reached kind config actions old) (code : ℕ) (more : List Line) → AllByRecursion (IsValidAction config) actions → NoneFalls kind.faults at.between new
+        → IsLast kind config at.action code at.middle at.between more new → IsCounted (at.lines ++ more) old new
+    up-to-counted actions old new at code more are falls ended =
         let parts = front-valid kind.held kind.faults config valid at.done (at.action ∷ at.rest) (subst (AllByRecursion (IsValidAction config)) at.parts are) in
-        counted-more kind.faults config at.lines (more ++ last) old at.between new (prints-falls at.done first_state at.middle old at.between at.lines at.told)
-        (all-counted at.done first_state at.middle old at.between at.lines parts.0 at.told) (last-counted at.action at.middle at.between new more last parts.1.0 falls ended)
+        counted-more kind.faults config at.lines more old at.between new (prints-falls at.done first_state at.middle old at.between at.lines at.told)
+        (all-counted at.done first_state at.middle old at.between at.lines parts.0 at.told) (last-counted at.action code at.middle at.between new more parts.1.0 falls ended)

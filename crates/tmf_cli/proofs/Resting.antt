@@ -1,24 +1,23 @@
 -- The devices of a node that is up: its trails rest, its volumes too, and nothing of them is damaged.
-use Rattle.std.specs.Prelude.{Bool, false, Option, Some, None, slice_get}
+use Rattle.std.specs.Prelude.{Bool, Option, Some, None, slice_get}
 use Rattle.std.specs.List.{AllByRecursion}
-use Rattle.std.proofs.Common.{zero, suc, ◌≡◌, ◌⊎◌, ◌≤◌, ◌+◌, ◌-◌, ◌^◌, ◌++◌, ◌∷◌, [], ℕ, List, length, refl, sym, subst, inl, inr, ⊎_elim, arith}
+use Rattle.std.specs.Option.{option_map_or}
+use Rattle.std.proofs.Common.{zero, suc, ◌≡◌, ◌⊎◌, ◌≤◌, ◌-◌, ◌++◌, ◌∷◌, [], ℕ, List, sym, ap, subst, ◌∙◌, inl, inr, ⊎_elim, arith}
 use Rattle.std.proofs.lemmas.List.Elements.{recursion_from_All}
 use Rattle.disk_model.specs.Held.{Held}
 use Rattle.disk_model.specs.Devices.{SameBut, held_at}
-use Rattle.disk_model.specs.declared.disk.Disk as disk
 use Rattle.disk_model.specs.declared.fuse.Fuse.{Fuse}
 use Rattle.tmf_model.specs.declared.config.Config.{Config}
 use Rattle.tmf_model.specs.declared.config.FileLine.{FileLine}
 use Rattle.tmf_model.specs.declared.config.Volume.{Volume}
-use Rattle.tmf_model.specs.declared.script.Item.{Item}
 use Rattle.tmf_model.specs.Config.{IsDeclared, IsValidConfig}
 use Rattle.tmf_model.specs.RecordMap.{RecordMap}
 use Rattle.trail_files.specs.declared.damage.Damage.{Damage}
 use Rattle.trail_files.specs.declared.monitor_record.MonitorRecord.{MonitorRecord}
 use Rattle.trail_files.specs.declared.monitor_record.MonitorRecord.TheVariants.{Start}
-use Rattle.trail_files.specs.StandsFor.{Base, HasRoom, IsNumber}
+use Rattle.trail_files.specs.StandsFor.{Base, IsNumber}
 use Rattle.keyed_file.specs.Volume.{Contents, IsLost, SpellsVolume, label_of}
-use Rattle.block_cache.specs.Volume.{HasBase, RestsFor}
+use Rattle.block_cache.specs.Volume.{HasBase}
 use Rattle.volume_restore.specs.Bases.{volume_on}
 use Rattle.volume_restore.specs.Inspected.{IsFineVolume}
 use Rattle.volume_restore.specs.Listed.{IsFineFile}
@@ -26,19 +25,13 @@ use Rattle.volume_recovery.specs.declared.recovery.Recovered.{Recovered}
 use Rattle.volume_recovery.specs.VolumeAnswers.{EndsAtRest, HasRecoveredWithVolumes, IsFirstFound, IsLeftVolume, RestsStarted, is_lost}
 use Rattle.volume_recovery.specs.VolumeFormat.{IsNodeDevice}
 use Rattle.volume_recovery.specs.VolumeListing.{file_device}
-use Rattle.volume_recovery.specs.VolumeLoop.{IsUsed}
 use Rattle.volume_recovery.specs.VolumeNode.{StandsWithVolumes, volume_device}
-use Rattle.one_worker.specs.Loading.{AreReadable, IsCrowded, IsNamedLost}
-use Rattle.trail_replay.specs.Texts.{AllSpell}
-use Rattle.one_worker.specs.RunLaw.{IsOfNode, IsUp, KeepsNode, TrailsRest}
-use Rattle.one_worker.proofs.Files.{volume_on-line}
-use Rattle.one_worker.proofs.Up.{LoweredLaw}
 use Rattle.tmf_cli.specs.declared.node.Up.{Up}
-use Rattle.tmf_cli.specs.BetweenActions.{IsBounded, IsReady, RestsUp, SameOthers}
-use Rattle.tmf_cli.specs.Lost.{AreLost, lost_flags, names_lost, unless}
+use Rattle.tmf_cli.specs.BetweenActions.{AreReadable, IsBounded, IsReady, RestsUp, SameOthers, TrailsRest}
+use Rattle.tmf_cli.specs.Lost.{AreLost, lost_flags, unless}
 use Rattle.tmf_cli.specs.OutputLaw.{Candidate}
 use Rattle.tmf_cli.proofs.Bays.{held-is}
-use Rattle.tmf_cli.proofs.Losses.{flags-lost, number-at, number-within, unless-some, unnamed}
+use Rattle.tmf_cli.proofs.Losses.{flags-lost, number-at, number-within, unless-some}
 
 -- nothing is wrong in a volume that is spelled
 abbrev pub IsFine : Type 0
@@ -51,7 +44,7 @@ IsUndamagedStand config = (images : ℕ → Held) (list : List MonitorRecord) (m
 -- What a whole recovery of these images leaves on its devices: they are ready for a run and for a listing, and have lost what the images had lost; and where the images stood for a map, the devices
 -- rest with the list, with the new Start, and with the same map.
 pub record LeavesReady {D : Type 0} (held : D → Held) (config : Config) (images : ℕ → Held) (new : List (Fuse D)) (recovered : Recovered) : Type 0 where
-  pub ready : IsReady config (held_at held new) (record { epoch = recovered.epoch; place = length recovered.records + 2; lost = lost_flags recovered.lost })
+  pub ready : IsReady config (held_at held new) (record { epoch = recovered.epoch; lost = lost_flags recovered.lost })
   pub lost : (volume : ℕ) (line : Volume) → IsNumber config.volumes volume line → is_lost (held_at held new (volume_device volume)) ≡ is_lost (images (volume_device volume))
   pub rests : (map : RecordMap) → StandsWithVolumes config images recovered.records map → RestsStarted config (held_at held new) recovered.records recovered.epoch map
 
@@ -64,6 +57,14 @@ item-all P (y ∷ ys) (suc n) x all is = item-all P ys n x all.1 is
 pub trail-declared : (config : Config) → IsValidConfig config → (volume : ℕ) (line : Volume) → IsNumber config.volumes volume line → IsDeclared config.trails line.trail
 trail-declared config valid volume line is =
     item-all (λ x. IsDeclared config.trails x.trail) config.volumes (volume - 1) line (recursion_from_All (λ x. IsDeclared config.trails x.trail) config.volumes valid.volumes.declared) is.1
+
+-- the volume that a file lies on
+pub volume_on-line : (config : Config) (file : ℕ) (line : FileLine) → IsNumber config.files file line → volume_on config file ≡ line.volume
+volume_on-line config zero line is = absurd (omega (arith, is.0))
+volume_on-line config (suc n) line is = ap (λ o. option_map_or (λ one. one.volume) o 0) (ap (slice_get config.files) (before n) ∙ is.1)
+  where
+    before : (k : ℕ) → k ≡ suc k - 1
+    before k = omega arith
 
 -- the volume of a file is one of the configuration
 pub line-volume : (config : Config) (file : ℕ) (line : FileLine) → IsValidConfig config → IsNumber config.files file line → (volume : Volume) × IsNumber config.volumes line.volume volume
@@ -89,27 +90,9 @@ stands-readable config held list map valid fine stands file line is =
         let whole = fine config line.volume base.position (held (volume_device line.volume)) was spelled in
         inr (record { label = whole.label; blocks = whole.blocks.fine file })
 
--- the devices of a recovery are those of a run
-pub used-node : (config : Config) (device : ℕ) → IsUsed config device → IsOfNode config device
-used-node config device used =
-    ⊎_elim inl
-    (λ volume. inr (device - 4, record { above = omega (arith, volume.0); below = omega (arith, volume.0, volume.1) }, omega (arith, volume.0)))
-    used
-
 pub up-ready : {D : Type 0} (held : D → Held) (config : Config) (devices : List (Fuse D)) (up : Up) (candidates : Option (List Candidate)) → RestsUp held config devices up candidates → IsReady config (held_at held devices) up
 up-ready held config devices up None rests = rests
 up-ready held config devices up (Some standings) rests = rests.0
-
--- the items of a run for which the node is up are on no file of a lost volume
-pub run-unnamed : (config : Config) (held : ℕ → Held) (lost : List Bool) (items : List Item) (volume : ℕ) → IsValidConfig config → AreLost config held lost → names_lost config lost items ≡ false → IsNamedLost config held items volume → ⊥
-run-unnamed config held lost items volume valid are none named =
-    let line = line-volume config named.file named.line valid named.is_file in
-    unnamed config held lost items volume line.0 (subst (λ v. IsNumber config.volumes v line.0) named.on_volume line.1) are none named
-
--- the texts of trails that rest are whole
-pub rest-spell : (config : Config) (held : ℕ → Held) → TrailsRest config held → AllSpell config held
-rest-spell config held rests zero few = let one = rests 0 few in (one.0, one.1.spells)
-rest-spell config held rests (suc n) few = let one = rests (suc n) few in (one.0, one.1.spells)
 
 -- so does each whole recovery: of each volume that its images have not lost nothing is wrong, so it spells contents
 pub leaves-ready : {D : Type 0} (held : D → Held) (config : Config) (images : ℕ → Held) (new : List (Fuse D)) (recovered : Recovered) → IsValidConfig config → 1 ≤ recovered.epoch
@@ -145,43 +128,17 @@ leaves-ready held config images new recovered valid begun has = record {
     trails zero few = (recovered.records ++ Start recovered.epoch ∷ [], has.begun now (held-is held new))
     trails (suc n) few = has.trails_rest now (held-is held new) (suc n) (omega arith) few
 
--- a device of a run is one of the configuration's
-pub of-node : (config : Config) (device : ℕ) → IsOfNode config device → IsNodeDevice config device
-of-node config device of =
-    ⊎_elim inl (λ volume. inr (inl (record { above = omega (arith, volume.1.above, volume.2); below = omega (arith, volume.1.below, volume.2) }))) of
-
--- so is that of a file's volume
+-- the device of a file's volume is one of the configuration's
 pub file-node : (config : Config) (file : ℕ) → IsValidConfig config → IsDeclared config.files file → IsNodeDevice config (file_device config file)
 file-node config file valid declared =
     let volume = file-volume config file valid declared in
     let within = number-within config.volumes (volume_on config file) volume.0 volume.1 in
     inr (inl (record { above = omega (arith, volume.1.0); below = omega (arith, within) }))
 
--- so a run and a listing leave the others as they were
-pub run-others : {D : Type 0} (kind : disk.Ghosts D) (config : Config) (old new : List (Fuse D)) → KeepsNode kind config old new → SameOthers config old new
-run-others kind config old new keeps = λ number out. keeps.others number (λ of. out (of-node config number of))
-
+-- so a listing leaves the others as they were
 pub list-others : {D : Type 0} (config : Config) (file : ℕ) (old new : List (Fuse D)) → IsValidConfig config → IsDeclared config.files file → SameBut (file_device config file) old new → SameOthers config old new
 list-others config file old new valid declared same = λ number out. same number (λ is. out (subst (IsNodeDevice config) (sym is) (file-node config file valid declared)))
 
--- the place and the epoch of a node that is up for a run
-pub small-up : (is_so : Up → Bool) (o : Option Up) (up : Up) → unless is_so o ≡ Some up → IsBounded o → (up.place ≤ 2 ^ 63) × (1 ≤ up.epoch)
+-- the epoch of a node that is up for a run
+pub small-up : (is_so : Up → Bool) (o : Option Up) (up : Up) → unless is_so o ≡ Some up → IsBounded o → 1 ≤ up.epoch
 small-up is_so o up is small = subst IsBounded (unless-some is_so o up is).0 small
-
--- of devices that stand for a map no file is crowded: its volume is whole, and the map has room
-pub none-crowded : LoweredLaw → (config : Config) (held : ℕ → Held) (list : List MonitorRecord) (map : RecordMap) (epoch place : ℕ) → IsUp config held list map epoch place → IsValidConfig config → (file : ℕ) → IsCrowded config held file → ⊥
-none-crowded law config held list map epoch place is valid file crowded =
-    of (is.rests.stands.bases crowded.line.volume) refl (is.rests.stands.volumes_spelled crowded.line.volume volume.0 volume.1)
-  where
-    volume : (v : Volume) × IsNumber config.volumes crowded.line.volume v
-    volume = line-volume config file crowded.line valid crowded.is_file
-
-    own : (base : Base) → RestsFor (label_of config crowded.line.volume base.position) (held (volume_device crowded.line.volume))
-    own base = let rest = is.rests.volumes_rest crowded.line.volume volume.0 volume.1 in record { label_file = rest.label_file; files = rest.files }
-
-    of : (base : Option Base) → is.rests.stands.bases crowded.line.volume ≡ base → HasBase config crowded.line.volume (held (volume_device crowded.line.volume)) base → ⊥
-    of None at none = (none crowded.none.0.label.0 crowded.none.0.label.1).1 crowded.none.0.label.2.0
-    of (Some base) at has =
-        crowded.none.1 base has (own base)
-        (subst (HasRoom crowded.line) (λ i key. law config held list map is.rests.stands crowded.line.volume volume.0 base file crowded.line key valid is.lowered volume.1 at crowded.is_file refl i)
-        (is.rests.stands.stands.room file crowded.line crowded.is_file))

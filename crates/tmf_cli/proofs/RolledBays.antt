@@ -27,8 +27,8 @@ use Rattle.tmf_cli.specs.OutputLaw.{LeavesRolled}
 use Rattle.tmf_cli.specs.Rolling.{RollsBay}
 use Rattle.tmf_cli.proofs.Bays.{each-old, held-is, held-same, held-there, images-same}
 use Rattle.tmf_cli.proofs.Countdowns.{held-back, switched-holds}
+use Rattle.tmf_cli.proofs.Falls.{rose-later}
 use Rattle.tmf_cli.proofs.Losses.{number-at}
-use Rattle.tmf_cli.proofs.OneOutputs.{rose-later}
 use Rattle.tmf_cli.proofs.Resting.{trail-declared}
 
 -- a device of which a rollforward asks is one of the configuration's

@@ -35,26 +35,22 @@ use Rattle.rollforward.specs.declared.errors.RollError.TheVariants as roll
 use Rattle.rollforward.specs.Newest.{HasFailedOn}
 use Rattle.rollforward.specs.RolledNode.{IsRolledNode, RollsNode, without}
 use Rattle.rollforward.specs.Rolls.{IsFailure, IsRollDevice, IsRolledTo}
-use Rattle.one_worker.specs.declared.stop.RunError.TheVariants as run
-use Rattle.trail_replay.specs.declared.stop.Stop.{Stop}
-use Rattle.trail_replay.specs.declared.stop.Stop.TheVariants.{NoMemory}
-use Rattle.trail_replay.specs.Stop.{IsUndamagedStop}
 use Rattle.tmf_lines.specs.declared.line.Line.{Line}
 use Rattle.tmf_lines.specs.declared.line.Line.TheVariants.{Rolled}
 use Rattle.tmf_lines.specs.Report.{volume_name}
 use Rattle.tmf_cli.specs.declared.node.NodeState.{NodeState}
 use Rattle.tmf_cli.specs.declared.node.Up.{Up}
-use Rattle.tmf_cli.specs.BetweenActions.{HasBroken, HasDone, IsBounded, IfUp, IsEndOf, IsReady, Knows, RestsUp, node_of}
+use Rattle.tmf_cli.specs.BetweenActions.{HasBroken, HasDone, IsBounded, IfUp, IsReady, Knows, RestsUp, node_of}
 use Rattle.tmf_cli.specs.Lost.{flags_without, is_lost_volume, up_with_volume, with_volume}
 use Rattle.tmf_cli.specs.OutputLaw.{Candidate, IsRollLine, IsUnrolledFor, MayStand, OneOf, StandsAs, after_no_roll, after_part_roll, after_roll, with_back, unrolled_state}
 use Rattle.tmf_cli.specs.Rolling.{RollsBay}
-use Rattle.tmf_cli.proofs.Acts.{knows-same, none-made, stands-same, there-held}
+use Rattle.tmf_cli.proofs.Acts.{knows-same, stands-same, there-held}
 use Rattle.tmf_cli.proofs.Bays.{held-is}
 use Rattle.tmf_cli.proofs.Losses.{gate-is, lost-is, number-at}
 use Rattle.tmf_cli.proofs.Resting.{IsFine, up-ready}
 use Rattle.tmf_cli.proofs.Standings.{oneof-flat, oneof-map}
 
--- a node behind a rollforward that was refused has a small place, where it had one
+-- a node behind a rollforward that was refused has an epoch that a Start begins, where it had one
 pub unrolled-small : (error : RollError) (state : NodeState) → IsBounded state.up → IsBounded (unrolled_state error state).up
 unrolled-small roll.NotLost state small = small
 unrolled-small roll.NoDump state small = small
@@ -154,9 +150,7 @@ module _ {D : Type 0} (held : D → Held) (config : Config) (volume : ℕ) (vali
           record {
             rests = rolled.now_rests;
             lowered = rolled.lowered on.lowered;
-            front = on.front;
             begun = on.begun;
-            place = on.place;
             unused = λ trail audit some few spelled. on.unused trail audit some few (subst (λ h. Spells (audit_format (rules_of config trail)) h audit) (trail-same trail few) spelled);
           },
           rolled.back ∙ ap (without volume) lost,
@@ -271,18 +265,13 @@ module _ {D : Type 0} (held : D → Held) (config : Config) (volume : ℕ) (vali
 
 -- a script that ends for want of memory in a rollforward, which has written nothing
 pub unrolled-broken : {D : Type 0} (held : D → Held) (faults : D → ℕ) (config : Config) (volume : ℕ) (kill : Option ℕ) (old new : List (Fuse D)) (state : NodeState) (candidates : Option (List Candidate)) → HoldSame held old new
-    → {T : Type 0} (r : Result T Stop) → IfErr r (λ stop. stop ≡ NoMemory) → Knows held config (node_of state candidates) old → IfErr r (λ stop. HasBroken held faults config (RollAction volume kill) (node_of state candidates) old [] stop new)
-unrolled-broken held faults config volume kill old new state candidates same (Ok x) memory knows = tt
-unrolled-broken held faults config volume kill old new state candidates same (Err stop) memory knows = record {
+    → {T E : Type 0} (r : Result T E) → Knows held config (node_of state candidates) old → IfErr r (λ e. HasBroken held faults config (RollAction volume kill) (node_of state candidates) old new)
+unrolled-broken held faults config volume kill old new state candidates same (Ok x) knows = tt
+unrolled-broken held faults config volume kill old new state candidates same (Err e) knows = record {
   after = node_of state candidates;
   due = [];
-  why = run.Stopped NoMemory;
-  ends = subst (λ s. IsEndOf s (run.Stopped NoMemory)) (sym memory) tt;
-  breaks = (refl, refl, refl, same);
-  made = none-made stop;
+  breaks = (refl, refl, same);
   stands = stands-same held config old new same candidates knows.stands;
-  run = inl memory;
-  undamaged = subst IsUndamagedStop (sym memory) tt;
 }
 
 -- a node that is not down is up

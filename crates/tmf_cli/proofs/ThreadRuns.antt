@@ -1,10 +1,13 @@
--- How a run on threads extends what stood before it.
+-- How a run extends what stood before it.
 use Rattle.std.specs.Prelude.{Contains, slice_get, unwrap_or}
 use Rattle.std.specs.List.{AllByRecursion}
-use Rattle.std.proofs.Common.{suc, false, ◌≡◌, ◌⊎◌, ◌<◌, ◌+◌, ◌-◌, ◌++◌, ◌∷◌, [], ℕ, List, length, Option, Some, None, refl, sym, ap, subst, ◌∙◌, inl, inr, ⊎_elim, arith}
+use Rattle.std.proofs.Common.{zero, suc, false, ◌≡◌, ◌⊎◌, ◌≤◌, ◌<◌, ◌+◌, ◌-◌, ◌++◌, ◌∷◌, [], ℕ, List, length, Option, Some, None, refl, sym, ap, subst, ◌∙◌, inl, inr, ⊎_elim, arith}
+use Rattle.std.proofs.lemmas.Bool.{cases_lt}
 use Rattle.std.proofs.lemmas.List.{append-nil}
 use Rattle.std.proofs.lemmas.List.Elements.{Contains-append_cases, Contains-append_left, Contains-append_right, filter_map-append}
-use Rattle.node_machine.specs.Same.{Among}
+use Rattle.node_machine.specs.Monitor.{IsLater}
+use Rattle.node_machine.specs.Same.{Among, IsBefore}
+use Rattle.node_machine.specs.SameLaws.{among_left}
 use Rattle.run_outcomes.specs.Outcomes.{AreAttempts, AreOfItems, AreOfWorkers, AreOutcomesOf, first_attempt, most_attempts, next_attempt}
 use Rattle.run_outcomes.specs.Told.{IsRecordOf, MayBeCommitted}
 use Rattle.run_outcomes.specs.declared.outcome.Hang.{Hang}
@@ -12,6 +15,7 @@ use Rattle.run_outcomes.specs.declared.outcome.Hang.TheVariants as hang
 use Rattle.run_outcomes.specs.declared.outcome.Outcome.{Outcome}
 use Rattle.run_outcomes.specs.declared.outcome.Told.{Told}
 use Rattle.run_outcomes.specs.declared.outcome.Told.TheVariants as told
+use Rattle.single_law.specs.Row.{AreInRow}
 use Rattle.tmf_lines.specs.declared.line.Line.{Line}
 use Rattle.tmf_lines.specs.declared.line.Line.TheVariants.{Committed}
 use Rattle.tmf_lines.specs.declared.line.PartName.{PartName}
@@ -24,14 +28,20 @@ use Rattle.tmf_model.specs.declared.transid.Transid.{Transid}
 use Rattle.tmf_model.specs.Commits.{script_transaction}
 use Rattle.trail_files.specs.declared.monitor_record.MonitorRecord.{MonitorRecord}
 use Rattle.trail_files.specs.declared.monitor_record.MonitorRecord.TheVariants.{Start, Commit}
-use Rattle.tmf_cli.specs.Headline.{Extends, acknowledged, acknowledged_by, doubted, doubted_by, epoch_of, is_formatted, meaning_in, move_of}
+use Rattle.tmf_cli.specs.Headline.{AreAbove, Extends, epoch_of, is_formatted, meaning_in, move_of, place_told, places_told}
 use Rattle.tmf_cli.specs.OutputLaw.{Candidate, GoesOn, with_records}
-use Rattle.tmf_cli.specs.Outcomes.{read_lines}
-use Rattle.tmf_cli.specs.RunLines.{hang_line, run_lines, told_lines}
-use Rattle.tmf_cli.specs.Single.{IsSingle}
-use Rattle.tmf_cli.proofs.Extending.{AreSilent, AreStill, IsQuiet, all-append, all-weaker, commits-agree, committed_of, behind-there, last_epoch-more, meaning-one, no-commits, nothing-in, one-in, quiet-reads, quiet-tell, silent-none, silent-tell, slice_get-behind, some_same, stays-at, still-lost}
+use Rattle.tmf_cli.specs.RunLines.{hang_line, read_line, read_lines, run_lines, told_lines}
+use Rattle.tmf_cli.proofs.Extending.{AreQuiet, AreSilent, AreStill, IsQuiet, IsTold, all-append, all-weaker, commits-agree, contained, contains-at, last_epoch-more, meaning-one, nothing-in, one-in, quiet-tell, silent-none, silent-of, silent-tell, slice_get-behind, stays-at, still-lost, told-behind, told-front}
 
 -- THE LINES OF A RUN
+
+quiet-reads : (tx : Transid) (reads : List (ℕ × Option (List ℕ))) → AreQuiet (read_lines tx reads)
+quiet-reads tx [] = tt
+quiet-reads tx (read ∷ reads) = (one read.1, quiet-reads tx reads)
+  where
+    one : (found : Option (List ℕ)) → IsQuiet (read_line tx read.0 found)
+    one None = ((refl, refl), refl)
+    one (Some value) = ((refl, refl), refl)
 
 -- the lines tell of no format, and of no loss or rollforward
 abbrev pub IsPlain : Line → Type 0
@@ -67,7 +77,7 @@ run-plain : (config : Config) (outcomes : List Outcome) → AllByRecursion IsPla
 run-plain config [] = tt
 run-plain config (o ∷ rest) = all-append IsPlain (told_lines config o.tx o.told) (run_lines config rest) (told-plain config o.tx o.told) (run-plain config rest)
 
--- no line of a run on threads is that of a format
+-- no line of a run is that of a format
 pub run-unformatted : (config : Config) (outcomes : List Outcome) → AllByRecursion (λ line. is_formatted line ≡ false) (run_lines config outcomes)
 run-unformatted config outcomes = all-weaker IsPlain (λ line. is_formatted line ≡ false) (λ line is. is.0) (run_lines config outcomes) (run-plain config outcomes)
 
@@ -76,6 +86,13 @@ run-still : (config : Config) (outcomes : List Outcome) → AreStill (run_lines 
 run-still config outcomes = all-weaker IsPlain (λ line. move_of line ≡ None) (λ line is. is.1) (run_lines config outcomes) (run-plain config outcomes)
 
 -- THE COMMITS OF ITS LINES
+
+abbrev committed_of : Line → Option (Transid × ℕ)
+committed_of (Committed tx place) = Some (tx, place)
+committed_of _ = None
+
+some_same : {T : Type 0} (a b : T) → Some a ≡ Some b → a ≡ b
+some_same a b e = ap (λ o. unwrap_or o a) e
 
 -- a line that acknowledges a commit is that of an outcome which tells of it
 abbrev Tells : List Outcome → Transid → ℕ → Type 0
@@ -114,16 +131,6 @@ line-told config u tells tx place there =
     (is.1, same.0, is.2 ∙ ap (λ p. told.Committed p is.1) same.1))
     (committed-or-silent config u tells)
 
--- where no outcome tells of a commit, the lines acknowledge none
-silent-run : (config : Config) (outcomes : List Outcome) → ((o : Outcome) (place : ℕ) (reads : List (ℕ × Option (List ℕ))) → Contains outcomes o → o.told ≡ told.Committed place reads → ⊥)
-    → acknowledged (run_lines config outcomes) ≡ []
-silent-run config [] none = refl
-silent-run config (o ∷ rest) none =
-    let first : acknowledged (told_lines config o.tx o.told) ≡ [] =
-    ⊎_elim (λ silent. silent-none (told_lines config o.tx o.told) silent) (λ is. absurd (none o is.0 is.1 (0, omega arith, refl) is.2)) (committed-or-silent config o.tx o.told) in
-    filter_map-append acknowledged_by (told_lines config o.tx o.told) (run_lines config rest) ∙ ap (λ l. l ++ acknowledged (run_lines config rest)) first
-    ∙ silent-run config rest (λ x place reads there. none x place reads (Contains-append_right (o ∷ []) rest x there))
-
 lines-tell : (config : Config) (outcomes : List Outcome) (tx : Transid) (place : ℕ) → Contains (run_lines config outcomes) (Committed tx place) → Tells outcomes tx place
 lines-tell config [] tx place there = absurd (nothing-in (Committed tx place) there)
 lines-tell config (o ∷ rest) tx place there =
@@ -132,9 +139,6 @@ lines-tell config (o ∷ rest) tx place there =
     (Contains-append_cases (told_lines config o.tx o.told) (run_lines config rest) (Committed tx place) there)
 
 -- an outcome that tells that its commit stands, or may stand, has a line that acknowledges it or leaves it in doubt
-abbrev IsTold : List Line → Transid → Type 0
-IsTold lines tx = Contains (acknowledged lines) tx ⊎ Contains (doubted lines) tx
-
 head-told : (config : Config) (tx : Transid) (tells : Told) → MayBeCommitted tells → IsTold (told_lines config tx tells) tx
 head-told config tx (told.Committed place reads) may = inl (0, omega arith, refl)
 head-told config tx (told.InDoubt device) may = inr (0, omega arith, refl)
@@ -155,20 +159,8 @@ head-told config tx (told.Dumping volume) may = absurd may
 is-told : (config : Config) (outcomes : List Outcome) (o : Outcome) → Among outcomes o → MayBeCommitted o.told → IsTold (run_lines config outcomes) o.tx
 is-told config [] o among may = absurd among
 is-told config (x ∷ rest) o (inl is) may =
-    let here : IsTold (told_lines config x.tx x.told) o.tx = subst (λ (y : Outcome). IsTold (told_lines config y.tx y.told) o.tx) (sym is) (head-told config o.tx o.told may) in
-    ⊎_elim
-    (λ so. inl (subst (λ l. Contains l o.tx) (sym (filter_map-append acknowledged_by (told_lines config x.tx x.told) (run_lines config rest)))
-    (Contains-append_left (acknowledged (told_lines config x.tx x.told)) (acknowledged (run_lines config rest)) o.tx so)))
-    (λ so. inr (subst (λ l. Contains l o.tx) (sym (filter_map-append doubted_by (told_lines config x.tx x.told) (run_lines config rest)))
-    (Contains-append_left (doubted (told_lines config x.tx x.told)) (doubted (run_lines config rest)) o.tx so)))
-    here
-is-told config (x ∷ rest) o (inr among) may =
-    ⊎_elim
-    (λ so. inl (subst (λ l. Contains l o.tx) (sym (filter_map-append acknowledged_by (told_lines config x.tx x.told) (run_lines config rest)))
-    (Contains-append_right (acknowledged (told_lines config x.tx x.told)) (acknowledged (run_lines config rest)) o.tx so)))
-    (λ so. inr (subst (λ l. Contains l o.tx) (sym (filter_map-append doubted_by (told_lines config x.tx x.told) (run_lines config rest)))
-    (Contains-append_right (doubted (told_lines config x.tx x.told)) (doubted (run_lines config rest)) o.tx so)))
-    (is-told config rest o among may)
+    told-front (told_lines config x.tx x.told) (run_lines config rest) o.tx (subst (λ (y : Outcome). IsTold (told_lines config y.tx y.told) o.tx) (sym is) (head-told config o.tx o.told may))
+is-told config (x ∷ rest) o (inr among) may = told-behind (told_lines config x.tx x.told) (run_lines config rest) o.tx (is-told config rest o among may)
 
 -- THE EPOCH OF ITS OUTCOMES
 
@@ -196,31 +188,174 @@ among-epoch epoch [] o are among = absurd among
 among-epoch epoch (x ∷ rest) o are (inl is) = subst (λ (y : Outcome). y.tx.epoch ≡ epoch) is are.0
 among-epoch epoch (x ∷ rest) o are (inr among) = among-epoch epoch rest o are.1 among
 
+-- THE ORDER OF THE OUTCOMES OF ONE WORKER
+
+-- the one outcome is of a later attempt than the other, of the same worker
+abbrev IsNext : Outcome → Outcome → Type 0
+IsNext o next = IsBefore o.tx next.tx × (o.tx.worker ≡ next.tx.worker)
+
+-- so is each than all before it
+abbrev AreInOrder : List Outcome → Type 0
+AreInOrder [] = Unit {0}
+AreInOrder (o ∷ rest) = AllByRecursion (IsNext o) rest × AreInOrder rest
+
+order-append : (outcomes more : List Outcome) → AreInOrder outcomes → AreInOrder more → AllByRecursion (λ o. AllByRecursion (IsNext o) more) outcomes → AreInOrder (outcomes ++ more)
+order-append [] more order later across = later
+order-append (o ∷ outcomes) more order later across = (all-append (IsNext o) outcomes more order.0 across.0, order-append outcomes more order.1 later across.1)
+
+-- the outcome is of the item of this attempt, and of no attempt before it
+abbrev IsAttemptFrom : Transid → Outcome → Type 0
+IsAttemptFrom tx o = (o.tx.worker ≡ tx.worker) × (o.tx.ordinal ≡ tx.ordinal) × (tx.attempt ≤ o.tx.attempt)
+
+-- the outcome is of this worker, and of no item before this one
+abbrev IsItemFrom : ℕ → ℕ → Outcome → Type 0
+IsItemFrom worker ordinal o = (o.tx.worker ≡ worker) × (ordinal ≤ o.tx.ordinal)
+
+first-from : (tx : Transid) (o : Outcome) → o.tx ≡ tx → IsAttemptFrom tx o
+first-from tx o is = subst (λ (t : Transid). (t.worker ≡ tx.worker) × (t.ordinal ≡ tx.ordinal) × (tx.attempt ≤ t.attempt)) (sym is) (refl, refl, omega arith)
+
+attempts-from : (most : ℕ) (tx : Transid) (outcomes : List Outcome) → AreAttempts most tx outcomes → AllByRecursion (IsAttemptFrom tx) outcomes
+attempts-from most tx [] are = absurd are
+attempts-from most tx (o ∷ []) are = (first-from tx o are.0, tt)
+attempts-from most tx (o ∷ next ∷ more) are = (
+  first-from tx o are.0,
+  all-weaker (IsAttemptFrom (next_attempt tx)) (IsAttemptFrom tx) (λ later is. (is.0, is.1, omega (arith, is.2))) (next ∷ more) (attempts-from most (next_attempt tx) (next ∷ more) are.3),
+)
+
+attempts-order : (most : ℕ) (tx : Transid) (outcomes : List Outcome) → AreAttempts most tx outcomes → AreInOrder outcomes
+attempts-order most tx [] are = absurd are
+attempts-order most tx (o ∷ []) are = (tt, tt)
+attempts-order most tx (o ∷ next ∷ more) are = (
+  all-weaker (IsAttemptFrom (next_attempt tx)) (IsNext o)
+      (λ later is. subst (λ (t : Transid). IsBefore t later.tx × (t.worker ≡ later.tx.worker)) (sym are.0) (inr (sym is.1, omega (arith, is.2)), sym is.0))
+      (next ∷ more) (attempts-from most (next_attempt tx) (next ∷ more) are.3),
+  attempts-order most (next_attempt tx) (next ∷ more) are.3,
+)
+
+module _ (epoch worker : ℕ) where
+  items-from : (ordinal : ℕ) (items : List Item) (outcomes : List Outcome) → AreOfItems epoch worker ordinal items outcomes → AllByRecursion (IsItemFrom worker ordinal) outcomes
+  items-from ordinal [] outcomes are = subst (AllByRecursion (IsItemFrom worker ordinal)) (sym are) tt
+  items-from ordinal (item ∷ items) outcomes (first, more, is, attempts, others) =
+      subst (AllByRecursion (IsItemFrom worker ordinal)) (sym is)
+      (all-append (IsItemFrom worker ordinal) first more
+      (all-weaker (IsAttemptFrom (first_attempt epoch worker ordinal)) (IsItemFrom worker ordinal) (λ o of. (of.0, omega (arith, of.1))) first (attempts-from (most_attempts item) (first_attempt epoch worker ordinal) first attempts))
+      (all-weaker (IsItemFrom worker (suc ordinal)) (IsItemFrom worker ordinal) (λ o of. (of.0, omega (arith, of.1))) more (items-from (suc ordinal) items more others)))
+
+  items-order : (ordinal : ℕ) (items : List Item) (outcomes : List Outcome) → AreOfItems epoch worker ordinal items outcomes → AreInOrder outcomes
+  items-order ordinal [] outcomes are = subst AreInOrder (sym are) tt
+  items-order ordinal (item ∷ items) outcomes (first, more, is, attempts, others) =
+      let behind = items-from (suc ordinal) items more others in
+      subst AreInOrder (sym is)
+      (order-append first more (attempts-order (most_attempts item) (first_attempt epoch worker ordinal) first attempts) (items-order (suc ordinal) items more others)
+      (all-weaker (IsAttemptFrom (first_attempt epoch worker ordinal)) (λ o. AllByRecursion (IsNext o) more)
+      (λ o of. all-weaker (IsItemFrom worker (suc ordinal)) (IsNext o) (λ later after. (inl (omega (arith, of.1, after.1)), of.0 ∙ sym after.0)) more behind)
+      first (attempts-from (most_attempts item) (first_attempt epoch worker ordinal) first attempts)))
+
+-- of one worker or none the outcomes are in order
+workers-order : (epoch worker : ℕ) (workers : List (List Item)) (outcomes : List Outcome) → length workers ≤ 1 → AreOfWorkers epoch worker workers outcomes → AreInOrder outcomes
+workers-order epoch worker [] outcomes few are = subst AreInOrder (sym are) tt
+workers-order epoch worker (items ∷ []) outcomes few (own, others, is, of, skipped, more) =
+    subst AreInOrder (sym (is ∙ ap (λ l. own ++ l) more ∙ append-nil own)) (items-order epoch worker 1 items own of)
+workers-order epoch worker (items ∷ next ∷ rest) outcomes few are = absurd (omega (arith, few))
+
+-- THE PLACES OF ITS COMMITS
+
+row-front : (records more : List MonitorRecord) → AreInRow (records ++ more) → AreInRow records
+row-front [] more row = tt
+row-front (x ∷ records) more row = (λ y there. row.0 y (among_left records more y there), row-front records more row.1)
+
+among-at : (records : List MonitorRecord) (n : ℕ) (x : MonitorRecord) → slice_get records n ≡ Some x → Among records x
+among-at [] n x at = absurd (cc at)
+among-at (y ∷ records) zero x at = inl (cc at)
+among-at (y ∷ records) (suc n) x at = inr (among-at records n x at)
+
+-- of two records in a row the second is the later one
+row-at : (records : List MonitorRecord) → AreInRow records → (m n : ℕ) (x y : MonitorRecord) → m < n → slice_get records m ≡ Some x → slice_get records n ≡ Some y → IsLater x y
+row-at [] row m n x y less at then = absurd (cc at)
+row-at (r ∷ records) row m zero x y less at then = absurd (omega (arith, less))
+row-at (r ∷ records) row zero (suc n) x y less at then = subst (λ z. IsLater z y) (some_same r x at) (row.0 y (among-at records n y then))
+row-at (r ∷ records) row (suc m) (suc n) x y less at then = row-at records row.1 m n x y (omega (arith, less)) at then
+
+not-both : (t u : Transid) → IsBefore t u → IsBefore u t → ⊥
+not-both t u one other = ⊎_elim (λ a. ⊎_elim (λ b. omega (arith, a, b)) (λ b. omega (arith, a, b.0)) other) (λ a. ⊎_elim (λ b. omega (arith, a.0, b)) (λ b. omega (arith, a.0, a.1, b.0, b.1)) other) one
+
+-- the commit stands at this place, among records behind the list
+abbrev IsPlaced : List MonitorRecord → List MonitorRecord → Transid → ℕ → Type 0
+IsPlaced list records tx place = (before : ℕ) × (place ≡ length list + suc before) × (slice_get records before ≡ Some (Commit tx))
+
+-- so does that of each outcome that tells of it
+abbrev ArePlaced : List MonitorRecord → List MonitorRecord → List Outcome → Type 0
+ArePlaced list records outcomes = (o : Outcome) (place : ℕ) (reads : List (ℕ × Option (List ℕ))) → Contains outcomes o → o.told ≡ told.Committed place reads → IsPlaced list records o.tx place
+
+module _ (list records : List MonitorRecord) (row : AreInRow records) where
+  -- of two commits of one worker that of the later attempt stands at a higher place
+  placed-above : (t u : Transid) (p q : ℕ) → IsPlaced list records t p → IsPlaced list records u q → IsBefore t u → t.worker ≡ u.worker → p < q
+  placed-above t u p q one two before same =
+      ⊎_elim (λ less. omega (arith, less, one.1, two.1))
+      (λ least. ⊎_elim (λ less. absurd (not-both t u before (row-at records row two.0 one.0 (Commit u) (Commit t) less two.2 one.2 u t refl refl (sym same))))
+      (λ most.
+      let at : two.0 ≡ one.0 = omega (arith, least, most) in
+      let is : Commit t ≡ Commit u = some_same (Commit t) (Commit u) (sym one.2 ∙ ap (λ n. slice_get records n) (sym at) ∙ two.2) in
+      let tx : t ≡ u = cc is in
+      let own : IsBefore t t = subst (λ v. IsBefore t v) (sym tx) before in
+      absurd (not-both t t own own)) (cases_lt two.0 one.0))
+      (cases_lt one.0 two.0)
+
+  -- the places that the lines of outcomes tell rise, where the outcomes are in order as soon as the records have a commit
+  places-rise : (config : Config) (low : ℕ) (outcomes : List Outcome) → ((tx : Transid) → Contains records (Commit tx) → AreInOrder outcomes) → ArePlaced list records outcomes
+      → ((o : Outcome) (place : ℕ) (reads : List (ℕ × Option (List ℕ))) → Contains outcomes o → o.told ≡ told.Committed place reads → low < place) → AreAbove low (places_told (run_lines config outcomes))
+  places-rise config low [] order placed above = tt
+  places-rise config low (o ∷ rest) order placed above =
+      ⊎_elim
+      (λ silent. subst (AreAbove low) (sym (both ∙ ap (λ l. l ++ places_told (run_lines config rest)) (silent-none (told_lines config o.tx o.told) silent)))
+      (places-rise config low rest (λ tx there. (order tx there).1) placed-rest (λ next place reads there tells. above next place reads (later next there) tells)))
+      (λ is.
+      let own = placed o is.0 is.1 (0, omega arith, refl) is.2 in
+      let next_ones = order o.tx (contains-at records own.0 (Commit o.tx) own.2) in
+      subst (AreAbove low) (sym (both ∙ ap (λ l. l ++ places_told (run_lines config rest)) (place-of o.tx o.told is.0 is.1 is.2))) (
+        above o is.0 is.1 (0, omega arith, refl) is.2,
+        places-rise config is.0 rest (λ tx there. (order tx there).1) placed-rest (λ next place reads there tells.
+            let behind = contained (IsNext o) rest next next_ones.0 there in
+            placed-above o.tx next.tx is.0 place own (placed-rest next place reads there tells) behind.0 behind.1),
+      ))
+      (committed-or-silent config o.tx o.told)
+    where
+      both : places_told (run_lines config (o ∷ rest)) ≡ places_told (told_lines config o.tx o.told) ++ places_told (run_lines config rest)
+      both = filter_map-append place_told (told_lines config o.tx o.told) (run_lines config rest)
+
+      later : (next : Outcome) → Contains rest next → Contains (o ∷ rest) next
+      later next there = Contains-append_right (o ∷ []) rest next there
+
+      placed-rest : ArePlaced list records rest
+      placed-rest next place reads there tells = placed next place reads (later next there) tells
+
+      place-of : (u : Transid) (tells : Told) (place : ℕ) (reads : List (ℕ × Option (List ℕ))) → tells ≡ told.Committed place reads → places_told (told_lines config u tells) ≡ place ∷ []
+      place-of u tells place reads is = ap (λ (t : Told). places_told (told_lines config u t)) is ∙ ap (λ l. place ∷ l) (silent-none (read_lines u reads) (silent-of (read_lines u reads) (quiet-reads u reads)))
+
 -- A RUN IS ADDED
 
--- With records of which each is of an outcome, where each transaction that is told as committed has its own at its place, it is extended by the run.
-pub extend-threads : (config : Config) (phase : Phase) (epoch : ℕ) (s : Candidate) (outcomes : List Outcome) (records : List MonitorRecord) → ¬ IsSingle config phase → epoch ≡ epoch_of s.list → AreOutcomesOf phase epoch outcomes
-    → ((item : MonitorRecord) → Contains records item → IsRecordOf outcomes item)
-    → ((o : Outcome) (place : ℕ) (reads : List (ℕ × Option (List ℕ))) → Contains outcomes o → o.told ≡ told.Committed place reads → (length s.list < place) × (slice_get (s.list ++ records) (place - 1) ≡ Some (Commit o.tx)))
-    → Extends config 0 (epoch_of s.list) (suc (epoch_of (s.list ++ records))) (record { epoch = epoch; phase = phase } ∷ []) (run_lines config outcomes) s (with_records phase epoch records s)
-extend-threads config phase epoch s outcomes records many same attempts each landed =
+-- With records in a row of which each is of an outcome, where each transaction that is told as committed has its own at its place, it is extended by the run.
+extend-run : (config : Config) (phase : Phase) (epoch : ℕ) (s : Candidate) (outcomes : List Outcome) (records : List MonitorRecord) → epoch ≡ epoch_of s.list → AreOutcomesOf phase epoch outcomes
+    → ((item : MonitorRecord) → Contains records item → IsRecordOf outcomes item) → AreInRow records → ArePlaced s.list records outcomes
+    → Extends config (epoch_of s.list) (suc (epoch_of (s.list ++ records))) (record { epoch = epoch; phase = phase } ∷ []) (run_lines config outcomes) s (with_records phase epoch records s)
+extend-run config phase epoch s outcomes records same attempts each row placed =
     let last : epoch_of (s.list ++ records) ≡ epoch_of s.list = ap (λ o. unwrap_or o 0) (last_epoch-more s.list records (λ e there. each (Start e) there)) in
     record {
       records = records;
       list = refl;
-      in_flight = [];
-      few = omega arith;
       no_other = λ tx there.
           let of = each (Commit tx) there in
-          ⊎_elim inl (λ doubt. inr (inl doubt)) (subst (IsTold (run_lines config outcomes)) of.tx_is (is-told config outcomes of.outcome of.among of.is_so));
+          subst (IsTold (run_lines config outcomes)) of.tx_is (is-told config outcomes of.outcome of.among of.is_so);
       in_order = λ single.
-          let none : (tx : Transid) → Contains records (Commit tx) → ⊥ = λ tx there. many (single (record { epoch = epoch; phase = phase }) tx (0, omega arith, refl) there (of_epoch tx there)) in
-          no-commits records none
-          ∙ sym (append-nil (acknowledged (run_lines config outcomes))
-          ∙ silent-run config outcomes (λ o place reads there tells. let at = landed o place reads there tells in none o.tx (behind-there s.list records place (Commit o.tx) at.0 at.1)));
+          places-rise s.list records row config (length s.list) outcomes
+          (λ tx there. workers-order epoch 1 phase.workers outcomes (single (record { epoch = epoch; phase = phase }) tx (0, omega arith, refl) there (of_epoch tx there)).few attempts) placed
+          (λ o place reads there tells. let is = placed o place reads there tells in omega (arith, is.1));
       places = λ tx place there.
           let is = lines-tell config outcomes tx place there in
-          subst (λ t. (length s.list < place) × (slice_get (s.list ++ records) (place - 1) ≡ Some (Commit t))) is.3 (landed is.0 place is.1 is.2 is.4);
+          let at = placed is.0 place is.1 is.2 is.4 in (
+            omega (arith, at.1),
+            ap (λ n. slice_get (s.list ++ records) n) (place-split place (length s.list) at.0 at.1) ∙ slice_get-behind s.list records at.0 ∙ at.2 ∙ ap (λ t. Some (Commit t)) is.3,
+          );
       map = commits-agree (script_transaction phase epoch) (meaning_in (record { epoch = epoch; phase = phase } ∷ [])) records (λ tx there. sym (meaning-one phase epoch tx)) s.map;
       lost = still-lost config (run_lines config outcomes) s.lost (run-still config outcomes);
       ours = λ tx there. inl (of_epoch tx there);
@@ -233,25 +368,23 @@ extend-threads config phase epoch s outcomes records many same attempts each lan
         let of = each (Commit tx) there in
         subst (λ (t : Transid). t.epoch ≡ epoch) of.tx_is (among-epoch epoch outcomes of.outcome (workers-epoch epoch 1 phase.workers outcomes attempts) of.among)
 
--- What stands in the records that have landed stands in the list at its place, also with those behind them that were offered.
-module _ (config : Config) (phase : Phase) (epoch : ℕ) (s : Candidate) (outcomes : List Outcome) (after : Option (List Candidate)) (many : ¬ IsSingle config phase) (same : epoch ≡ epoch_of s.list) (attempts : AreOutcomesOf phase epoch outcomes)
-    (goes : GoesOn phase epoch outcomes s after) where
-  placed : (more records : List MonitorRecord) → records ≡ goes.landed ++ more → (o : Outcome) (place : ℕ) (reads : List (ℕ × Option (List ℕ))) → Contains outcomes o → o.told ≡ told.Committed place reads
-      → (length s.list < place) × (slice_get (s.list ++ records) (place - 1) ≡ Some (Commit o.tx))
-  placed more records are o place reads there tells =
-      let has = goes.committed o place reads there tells in (
-        omega (arith, has.place_is),
-        ap (λ n. slice_get (s.list ++ records) n) (place-split place (length s.list) has.before has.place_is) ∙ slice_get-behind s.list records has.before ∙ stays-at goes.landed more records has.before (Commit o.tx) are has.at,
-      )
-    where
-      place-split : (place count n : ℕ) → place ≡ count + suc n → place - 1 ≡ count + n
-      place-split place count n is = omega (arith, is)
+    place-split : (place count n : ℕ) → place ≡ count + suc n → place - 1 ≡ count + n
+    place-split place count n is = omega (arith, is)
+
+-- So it is with the records that have landed, and also with those behind them that were offered.
+module _ (config : Config) (phase : Phase) (epoch : ℕ) (s : Candidate) (outcomes : List Outcome) (after : Option (List Candidate)) (same : epoch ≡ epoch_of s.list) (attempts : AreOutcomesOf phase epoch outcomes)
+    (goes : GoesOn config phase epoch outcomes s after) where
+  placed-in : (more records : List MonitorRecord) → records ≡ goes.landed ++ more → ArePlaced s.list records outcomes
+  placed-in more records are o place reads there tells =
+      let has = goes.committed o place reads there tells in
+      (has.before, has.place_is, stays-at goes.landed more records has.before (Commit o.tx) are has.at)
 
   abbrev pub Behind : List MonitorRecord → Type 0
-  Behind records = Extends config 0 (epoch_of s.list) (suc (epoch_of (s.list ++ records))) (record { epoch = epoch; phase = phase } ∷ []) (run_lines config outcomes) s (with_records phase epoch records s)
+  Behind records = Extends config (epoch_of s.list) (suc (epoch_of (s.list ++ records))) (record { epoch = epoch; phase = phase } ∷ []) (run_lines config outcomes) s (with_records phase epoch records s)
 
   pub extend-landed : Behind goes.landed
-  extend-landed = extend-threads config phase epoch s outcomes goes.landed many same attempts (λ item there. goes.records item (Contains-append_left goes.landed goes.offered item there)) (placed [] goes.landed (sym (append-nil goes.landed)))
+  extend-landed = extend-run config phase epoch s outcomes goes.landed same attempts (λ item there. goes.records item (Contains-append_left goes.landed goes.offered item there)) (row-front goes.landed goes.offered goes.row)
+      (placed-in [] goes.landed (sym (append-nil goes.landed)))
 
   pub extend-offered : Behind (goes.landed ++ goes.offered)
-  extend-offered = extend-threads config phase epoch s outcomes (goes.landed ++ goes.offered) many same attempts goes.records (placed goes.offered (goes.landed ++ goes.offered) refl)
+  extend-offered = extend-run config phase epoch s outcomes (goes.landed ++ goes.offered) same attempts goes.records goes.row (placed-in goes.offered (goes.landed ++ goes.offered) refl)

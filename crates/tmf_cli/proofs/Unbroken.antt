@@ -1,22 +1,17 @@
 -- Where a node is up, no volume that a run names is broken: so no attempt and no dump of a run meets damage.
-use Rattle.std.specs.Prelude.{IsTrue, flat_map, if◌then◌else◌, ◌==◌, slice_get}
+use Rattle.std.specs.Prelude.{flat_map, if◌then◌else◌, ◌==◌, slice_get}
 use Rattle.std.specs.Option.{option_and_then, option_map_or}
-use Rattle.std.proofs.Common.{true, false, ◌≡◌, ◌⊎◌, ◌++◌, ◌∷◌, [], zero, suc, ℕ, Bool, List, Option, Some, None, refl, sym, ap, subst, ◌∙◌, inl, inr, ⊎_elim, arith}
-use Rattle.block_cache.specs.Volume.{HasBase, RestsFor}
+use Rattle.std.proofs.Common.{true, false, ◌≡◌, ◌++◌, ◌∷◌, [], zero, suc, ℕ, Bool, List, Option, Some, None, refl, sym, ap, subst, ◌∙◌, inl, inr, ⊎_elim, arith}
+use Rattle.block_cache.specs.Volume.{HasBase}
 use Rattle.disk_model.specs.Devices.{held_at}
 use Rattle.disk_model.specs.Fuse.{device_of}
 use Rattle.disk_model.specs.Held.{Held}
 use Rattle.disk_model.specs.declared.fuse.Fuse.{Fuse}
-use Rattle.keyed_file.specs.Volume.{label_of}
 use Rattle.node_machine.specs.Same.{Among}
 use Rattle.run_outcomes.specs.Devices.{fuse_kind, told_in, told_of, volume_device}
 use Rattle.run_outcomes.specs.Found.{ToldBase}
 use Rattle.run_outcomes.specs.Run.{IsBroken, volumes_named, volumes_of_item}
-use Rattle.run_outcomes.specs.Told.{Account, HasDeviceFailed, IsDamaged, IsTold, item_of}
-use Rattle.run_outcomes.specs.declared.outcome.Hang.TheVariants as hang
-use Rattle.run_outcomes.specs.declared.outcome.Outcome.{Outcome}
-use Rattle.run_outcomes.specs.declared.outcome.Told.{Told}
-use Rattle.run_outcomes.specs.declared.outcome.Told.TheVariants as told
+use Rattle.run_outcomes.specs.Told.{Account, IsDamaged, item_of}
 use Rattle.run_standing.specs.NodeUp.{IsNodeUp}
 use Rattle.run_standing.specs.Telling.{telling}
 use Rattle.tmf_model.specs.Commits.{attempted, numbered, script_transaction}

@@ -17,18 +17,13 @@ use Rattle.volume_restore.specs.Formatted.{IsEmptied}
 use Rattle.volume_recovery.specs.Losing.{MayLose}
 use Rattle.volume_recovery.specs.VolumeAnswers.{is_lost, lost_among, numbers_to}
 use Rattle.volume_recovery.specs.VolumeNode.{StandsWithVolumes, volume_device}
-use Rattle.one_worker.specs.declared.stop.RunError.TheVariants as run
-use Rattle.trail_replay.specs.declared.stop.Stop.{Stop}
-use Rattle.trail_replay.specs.declared.stop.Stop.TheVariants.{NoMemory}
-use Rattle.trail_replay.specs.Stop.{IsUndamagedStop}
 use Rattle.tmf_lines.specs.declared.line.Line.{Line}
 use Rattle.tmf_lines.specs.declared.line.Line.TheVariants.{Removed, LoseFailed}
 use Rattle.tmf_lines.specs.Report.{volume_name}
 use Rattle.tmf_cli.specs.declared.node.NodeState.{NodeState}
-use Rattle.tmf_cli.specs.BetweenActions.{HasBroken, HasDone, IsEndOf, Knows, SameOthers, node_of}
+use Rattle.tmf_cli.specs.BetweenActions.{HasBroken, HasDone, Knows, SameOthers, node_of}
 use Rattle.tmf_cli.specs.Lost.{is_among, lost_with}
 use Rattle.tmf_cli.specs.OutputLaw.{Candidate, LeavesLost, MayStand, OneOf, StandsAs, after_loss, after_part_loss, down, with_lost}
-use Rattle.tmf_cli.proofs.Acts.{none-made}
 use Rattle.tmf_cli.proofs.Losses.{among-is, lost-alike, lost-is, none-is}
 use Rattle.tmf_cli.proofs.Standings.{oneof-flat, oneof-map, oneof-weaker}
 
@@ -139,20 +134,10 @@ module _ {D : Type 0} (held : D → Held) (law : LossLaw) (config : Config) (vol
     }
 
 -- a script that ends for want of memory before a loss
-pub lost-broken : {D : Type 0} (held : D → Held) (faults : D → ℕ) (config : Config) (volume : ℕ) (devices : List (Fuse D)) (state : NodeState) (candidates : Option (List Candidate)) {T : Type 0} (r : Result T Stop)
-    → IfErr r (λ stop. stop ≡ NoMemory) → Knows held config (node_of state candidates) devices → IfErr r (λ stop. HasBroken held faults config (LoseAction volume) (node_of state candidates) devices [] stop devices)
-lost-broken held faults config volume devices state candidates (Ok x) memory knows = tt
-lost-broken held faults config volume devices state candidates (Err stop) memory knows = record {
-  after = node_of state candidates;
-  due = [];
-  why = run.Stopped NoMemory;
-  ends = subst (λ s. IsEndOf s (run.Stopped NoMemory)) (sym memory) tt;
-  breaks = (refl, refl, refl, refl);
-  made = none-made stop;
-  stands = knows.stands;
-  run = inl memory;
-  undamaged = subst IsUndamagedStop (sym memory) tt;
-}
+pub lost-broken : {D : Type 0} (held : D → Held) (faults : D → ℕ) (config : Config) (volume : ℕ) (devices : List (Fuse D)) (state : NodeState) (candidates : Option (List Candidate)) {T E : Type 0} (r : Result T E)
+    → Knows held config (node_of state candidates) devices → IfErr r (λ e. HasBroken held faults config (LoseAction volume) (node_of state candidates) devices devices)
+lost-broken held faults config volume devices state candidates (Ok x) knows = tt
+lost-broken held faults config volume devices state candidates (Err e) knows = record { after = node_of state candidates; due = []; breaks = (refl, refl, refl); stands = knows.stands }
 
 -- the volume's device is one of the configuration's
 pub lost-others : {D : Type 0} (config : Config) (volume : ℕ) (old new : List (Fuse D)) → IsDeclared config.volumes volume → SameBut (volume_device volume) old new → SameOthers config old new

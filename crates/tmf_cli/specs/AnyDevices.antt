@@ -1,6 +1,6 @@
 -- The law of the output over any devices, also those that do not tell what they hold, as the files of a folder do not: which lines each action may print by the state of the node, what each line
 -- that tells of a failed device has for its cause, and the state that the action leaves.
-use Rattle.std.specs.Prelude.{◌≡◌, ◌≢◌, ◌⊎◌, ℕ, ◌+◌, ◌≤◌, true, false, max, List, [], ◌∷◌, ◌++◌, length, Option, Some, None, Ok, Err}
+use Rattle.std.specs.Prelude.{◌≡◌, ◌≢◌, ◌⊎◌, ℕ, ◌≤◌, true, false, max, List, [], ◌∷◌, ◌++◌, length, Some, None, Ok, Err}
 use Rattle.disk_model.specs.Devices.{RoseAt, SameBut}
 use Rattle.disk_model.specs.declared.disk.Disk as disk
 use Rattle.disk_model.specs.declared.fuse.Fuse.{Fuse}
@@ -9,20 +9,11 @@ use Rattle.tmf_model.specs.declared.script.Action.{Action}
 use Rattle.tmf_model.specs.declared.script.Action.TheVariants.{Format, Recover, Run, Lose, Rollforward, List as ListFile}
 use Rattle.tmf_model.specs.declared.script.Phase.{Phase}
 use Rattle.tmf_model.specs.declared.script.Script.{Script}
-use Rattle.tmf_model.specs.RecordMap.{RecordMap}
 use Rattle.tmf_model.specs.Script.{IsValidScript}
 use Rattle.trail_files.specs.declared.monitor_record.MonitorRecord.{MonitorRecord}
-use Rattle.trail_replay.specs.declared.stop.Stop.{Stop}
-use Rattle.trail_replay.specs.declared.stop.Stop.TheVariants as stop
-use Rattle.one_worker.specs.declared.outcome.Outcome.{Outcome}
-use Rattle.one_worker.specs.declared.stop.RunError.{RunError}
-use Rattle.one_worker.specs.declared.stop.RunError.TheVariants.{Stopped as RunStopped}
-use Rattle.one_worker.specs.Loading.{IsVolumeDevice}
-use Rattle.one_worker.specs.Outcome.{AreOutcomes}
-use Rattle.one_worker.specs.Stop.{IsRefusal}
 use Rattle.run_outcomes.specs.Devices.{fuse_kind}
 use Rattle.run_outcomes.specs.Run.{HasNotRun, HasRun, IsExact}
-use Rattle.run_outcomes.specs.declared.outcome.Outcome.{Outcome as RunOutcome}
+use Rattle.run_outcomes.specs.declared.outcome.Outcome.{Outcome}
 use Rattle.run_outcomes.specs.declared.outcome.PhaseError.{PhaseError}
 use Rattle.run_outcomes.specs.declared.outcome.PhaseError.TheVariants as phase_error
 use Rattle.rollforward.specs.declared.errors.RollError.{RollError}
@@ -38,24 +29,21 @@ use Rattle.volume_recovery.specs.VolumeNode.{volume_device}
 use Rattle.tmf_lines.specs.declared.line.ActionKind.TheVariants as asked
 use Rattle.tmf_lines.specs.declared.line.Line.{Line}
 use Rattle.tmf_lines.specs.declared.line.Line.TheVariants.{Formatted, Removed, LoseFailed, Rolled, RollNotUp, NotUp, ListNotUp}
+use Rattle.tmf_lines.specs.declared.output.GiveFault.{GiveFault}
+use Rattle.tmf_lines.specs.declared.output.GiveFault.TheVariants.{NoMemory}
 use Rattle.tmf_lines.specs.Line.{lines_text, IsNotGiven}
 use Rattle.tmf_lines.specs.Script.{IsScriptOf}
 use Rattle.tmf_lines.specs.Report.{file_name_of, format_failure, listed_lines, recovered_lines, volume_name}
 use Rattle.tmf_edges.specs.Moves.{AppendsPart}
 use Rattle.tmf_cli.specs.declared.node.NodeState.{NodeState}
 use Rattle.tmf_cli.specs.declared.node.Up.{Up}
-use Rattle.tmf_cli.specs.declared.status.ScriptEnd.{ScriptEnd}
-use Rattle.tmf_cli.specs.declared.status.ScriptEnd.TheVariants.{GiveFault, Stopped as StoppedBy}
-use Rattle.tmf_cli.specs.BetweenActions.{IsEndOf, IsListLine}
+use Rattle.tmf_cli.specs.BetweenActions.{IsListLine}
 use Rattle.tmf_cli.specs.Countdown.{KeepsCounts, OnceSwitched, Switches, kill_of}
 use Rattle.tmf_cli.specs.Counts.{AreCounted}
 use Rattle.tmf_cli.specs.Ending.{EndsUntouched, opening}
 use Rattle.tmf_cli.specs.Lost.{lost_flags, up_for, up_with, with_volume}
-use Rattle.tmf_cli.specs.Outcomes.{outcome_lines}
-use Rattle.tmf_cli.specs.OutputLaw.{FailedAmong, HasFailed, IsFailed, IsRecoveryLine, IsRollLine, IsRunLine, IsUndone, down, formatted_node, unrolled_state}
+use Rattle.tmf_cli.specs.OutputLaw.{FailedAmong, HasFailed, IsFailed, IsRecoveryLine, IsRollLine, IsRunLine, down, formatted_node, unrolled_state}
 use Rattle.tmf_cli.specs.RunLines.{run_lines}
-use Rattle.tmf_cli.specs.Single.{IsSingle, items_of}
-use Rattle.tmf_cli.specs.Top.{stop_lines}
 
 -- the state before the first action: down, with nothing printed, as if behind a whole format
 abbrev pub first_state : NodeState
@@ -70,7 +58,7 @@ module _ {D : Type 0} (kind : disk.Ghosts D) (config : Config) where
     pub begun : 1 ≤ epoch
     pub few : epoch ≤ 4294967295
     pub printed : lines ≡ recovered_lines config state.printed list lost epoch
-    pub left : after ≡ record { up = Some (record { epoch = epoch; place = length list + 2; lost = lost_flags lost }); formatted = true; printed = max state.printed (length list) }
+    pub left : after ≡ record { up = Some (record { epoch = epoch; lost = lost_flags lost }); formatted = true; printed = max state.printed (length list) }
 
   -- A recovery is refused, for this reason. A device that it tells to have failed is the node's, and has failed. The node is down.
   pub record PrintsNoRecovery (state : NodeState) (old : List (Fuse D)) (lines : List Line) (after : NodeState) (new : List (Fuse D)) : Type 0 where
@@ -81,22 +69,7 @@ module _ {D : Type 0} (kind : disk.Ghosts D) (config : Config) where
     pub failed : (device : ℕ) → error ≡ recovery.Failed device → HasFailed kind.faults config old new device
     pub left : after ≡ down state
 
-  -- First items of a single run of a node that is up have come to these outcomes: each as its item ends on the map that the outcomes before it leave, from some map on. These are their lines.
-  pub record PrintsItems (phase : Phase) (state : NodeState) (done : List Outcome) (lines : List Line) : Type 0 where
-    pub up : Up
-    pub was_up : up_for config phase state ≡ Some up
-    pub map : RecordMap
-    pub outcomes : AreOutcomes config up.epoch up.place (items_of phase) map done
-    pub printed : lines ≡ outcome_lines config done
-
-  -- So all of its items have, and the node is down.
-  pub record PrintsSingle (phase : Phase) (state : NodeState) (lines : List Line) (after : NodeState) : Type 0 where
-    pub done : List Outcome
-    pub items : PrintsItems phase state done lines
-    pub all : length done ≡ length (items_of phase)
-    pub left : after ≡ down state
-
-  -- The outcomes of a run on threads of a node that was up, and its devices, are those of one history. It prints them, and takes the node down. The countdown may have been switched on before it, and off
+  -- The outcomes of a run of a node that was up, and its devices, are those of one history. It prints them, and takes the node down. The countdown may have been switched on before it, and off
   -- behind it.
   pub record PrintsRun (phase : Phase) (state : NodeState) (old : List (Fuse D)) (lines : List Line) (after : NodeState) (new : List (Fuse D)) : Type 0 where
     pub up : Up
@@ -105,13 +78,13 @@ module _ {D : Type 0} (kind : disk.Ghosts D) (config : Config) where
     pub closed : List (Fuse D)
     pub on : Switches old opened
     pub off : Switches closed new
-    pub outcomes : List RunOutcome
+    pub outcomes : List Outcome
     pub ran : HasRun (fuse_kind kind) config phase up.epoch opened closed outcomes
     pub exact : IsExact (fuse_kind kind) config phase up.epoch opened (Ok outcomes)
     pub printed : lines ≡ run_lines config outcomes
     pub left : after ≡ down state
 
-  -- No worker of such a run has begun, for this reason. A device that it tells to have failed has failed, and each holds what it held. The node is down.
+  -- No worker of a run has begun, for this reason. A device that it tells to have failed has failed, and each holds what it held. The node is down.
   pub record PrintsNoRun (phase : Phase) (state : NodeState) (old : List (Fuse D)) (lines : List Line) (after : NodeState) (new : List (Fuse D)) : Type 0 where
     pub up : Up
     pub was_up : up_for config phase state ≡ Some up
@@ -159,8 +132,8 @@ module _ {D : Type 0} (kind : disk.Ghosts D) (config : Config) where
       ⊎ ((state.formatted ≡ true) × (PrintsRecovery state lines after ⊎ PrintsNoRecovery state old lines after new))
   Prints (Run phase) state old lines after new =
       ((up_for config phase state ≡ None) × IsNotBegun state old (NotUp asked.Run) lines after new)
-      ⊎ (IsSingle config phase × PrintsSingle phase state lines after)
-      ⊎ ((¬ IsSingle config phase) × (PrintsRun phase state old lines after new ⊎ PrintsNoRun phase state old lines after new))
+      ⊎ PrintsRun phase state old lines after new
+      ⊎ PrintsNoRun phase state old lines after new
   Prints (Lose volume) state old lines after new =
       (after ≡ down state) × SameBut (volume_device volume) old new
       × ((lines ≡ Removed (volume_name config volume) ∷ []) ⊎ IsFailed kind.held kind.faults config (λ device. device ≡ volume_device volume) old new (λ device. LoseFailed (volume_name config volume)) lines)
@@ -181,26 +154,6 @@ module _ {D : Type 0} (kind : disk.Ghosts D) (config : Config) where
       (first more : List Line) × (middle : NodeState) × (between : List (Fuse D))
       × Prints action state old first middle between × KeepsCounts kind.faults (kill_of action ≡ None) old between × PrintsAll rest middle between more after new × (lines ≡ first ++ more)
 
-  -- A single run was broken off for this reason, with the lines of what its first items have come to. Where it was refused for what its trails or volumes hold, or a volume's device has failed, no item
-  -- was done, and each device holds what it held.
-  pub record HaltsSingle (why : Stop) (phase : Phase) (state : NodeState) (old : List (Fuse D)) (lines : List Line) (new : List (Fuse D)) : Type 0 where
-    pub single : IsSingle config phase
-    pub done : List Outcome
-    pub items : PrintsItems phase state done lines
-    pub reason : RunError
-    pub ends : IsEndOf why reason
-    pub refused : IsRefusal reason → IsUndone kind.held old new done
-    pub unread : (device : ℕ) → reason ≡ RunStopped (stop.Failed device) → IsVolumeDevice config device → IsUndone kind.held old new done
-
-  -- a run was broken off so, or for want of memory, with no lines
-  abbrev pub HaltsRun : Stop → Phase → NodeState → List (Fuse D) → List Line → List (Fuse D) → Type 0
-  HaltsRun why phase state old lines new = ((why ≡ stop.NoMemory) × (lines ≡ [])) ⊎ HaltsSingle why phase state old lines new
-
-  -- an action was broken off, with these lines to print: a single run alone has any, and is ended by a device
-  abbrev pub Halts : Stop → Action → NodeState → List (Fuse D) → List Line → List (Fuse D) → Type 0
-  Halts why (Run phase) state old lines new = HaltsRun why phase state old lines new
-  Halts why _ state old lines new = (why ≡ stop.NoMemory) × (lines ≡ [])
-
   -- The actions before one have their lines.
   pub record Reached (actions : List Action) (old : List (Fuse D)) : Type 0 where
     pub done : List Action
@@ -212,32 +165,23 @@ module _ {D : Type 0} (kind : disk.Ghosts D) (config : Config) where
     pub between : List (Fuse D)
     pub told : PrintsAll done first_state old lines middle between
 
-  -- a device that ended the script has failed
-  abbrev pub IsBlamed : Stop → List (Fuse D) → List (Fuse D) → Type 0
-  IsBlamed why between new = (device : ℕ) → why ≡ stop.Failed device → HasFailed kind.faults config between new device
+  -- The script ended in this action, which had these lines to print: it was done; or, with status 2, memory lacked in it, and it had none.
+  abbrev pub IsLast : Action → ℕ → NodeState → List (Fuse D) → List Line → List (Fuse D) → Type 0
+  IsLast action code middle between more new = ((after : NodeState) × Prints action middle between more after new) ⊎ ((code ≡ 2) × (more ≡ []))
 
-  -- The script ended in this action, which had the lines `more` to print, and then `last`: it was done, and nothing is behind its lines; or it was broken off, and the line of the device that ended it may be.
-  abbrev pub IsLast : Action → NodeState → List (Fuse D) → List Line → List Line → List (Fuse D) → Type 0
-  IsLast action middle between more last new =
-      ((last ≡ []) × (after : NodeState) × Prints action middle between more after new)
-      ⊎ ((why : Stop) × Halts why action middle between more new × ((last ≡ []) ⊎ ((last ≡ stop_lines config why) × IsBlamed why between new)))
+  -- What the sink was given behind the lines of the actions before: with status 2 nothing, with 4 a front of the lines of the last action, and not all.
+  pub record IsGivenBy (code : ℕ) (before after : List ℕ) (more : List Line) : Type 0 where
+    pub memory : code ≡ 2 → after ≡ before
+    pub part : code ≡ 4 → AppendsPart before after (lines_text more)
 
-  -- What the sink was given behind the lines of the actions before: with status 2 all lines of the last action or none, with 4 a front of them and of the last line, and not all, and with 6 all of them.
-  pub record IsGivenBy (code : ℕ) (before after : List ℕ) (more last : List Line) : Type 0 where
-    pub memory : code ≡ 2 → (after ≡ before ++ lines_text more) ⊎ (after ≡ before)
-    pub part : code ≡ 4 → AppendsPart before after (lines_text (more ++ last))
-    pub stopped : code ≡ 6 → after ≡ before ++ lines_text (more ++ last)
-
-  -- The script ended in one of its actions, with this status; with 6 behind the line of a device. No device is told as failed more often than it has.
+  -- The script ended in one of its actions, with this status. No device is told as failed more often than it has.
   pub record PrintsUpTo (actions : List Action) (code : ℕ) (old new : List (Fuse D)) (sink : Type 0) (before after : List ℕ) : Type 0 where
     pub reached : Reached actions old
     pub more : List Line
-    pub last : List Line
-    pub ended : IsLast reached.action reached.middle reached.between more last new
+    pub ended : IsLast reached.action code reached.middle reached.between more new
     pub counts : KeepsCounts kind.faults (kill_of reached.action ≡ None) reached.between new
-    pub stops : code ≡ 6 → last ≢ []
-    pub counted : AreCounted kind.faults config (reached.lines ++ (more ++ last)) old new
-    pub given : sink → IsGivenBy code (before ++ lines_text reached.lines) after more last
+    pub counted : AreCounted kind.faults config (reached.lines ++ more) old new
+    pub given : sink → IsGivenBy code (before ++ lines_text reached.lines) after more
 
   -- All actions have their lines, which were given to the sink. No device is told as failed more often than it has.
   pub record PrintsWhole (actions : List Action) (old new : List (Fuse D)) (sink : Type 0) (before after : List ℕ) : Type 0 where
@@ -252,7 +196,7 @@ module _ {D : Type 0} (kind : disk.Ghosts D) (config : Config) where
   PrintsBy actions code old new sink before after =
       ((code ≡ 0) × PrintsWhole actions old new sink before after)
       ⊎ (((code ≡ 2) ⊎ (code ≡ 3)) × EndsUntouched old new sink before after)
-      ⊎ (((code ≡ 2) ⊎ (code ≡ 4) ⊎ (code ≡ 6)) × PrintsUpTo actions code old new sink before after)
+      ⊎ (((code ≡ 2) ⊎ (code ≡ 4)) × PrintsUpTo actions code old new sink before after)
 
   -- all actions of a script were done, with these lines
   abbrev pub HavePrinted : List Action → List (Fuse D) → List Line → List (Fuse D) → Type 0
@@ -266,29 +210,23 @@ module _ {D : Type 0} (kind : disk.Ghosts D) (config : Config) where
     pub prints : Prints action state old lines after new
     pub given_is : sink → given ≡ before ++ lines_text lines
 
-  -- what the sink was given of an action's lines where the script ended in it
-  abbrev pub IsGivenAt : ScriptEnd → List ℕ → List ℕ → List Line → Type 0
-  IsGivenAt (GiveFault fault) before after lines = IsNotGiven fault before after (lines_text lines)
-  IsGivenAt (StoppedBy why) before after lines = after ≡ before ++ lines_text lines
-
-  -- how an action ended the script: the sink may have, behind a whole action or one that was broken off; a device, or want of memory, only in one
-  abbrev pub EndsBy : ScriptEnd → Action → NodeState → List (Fuse D) → List Line → List (Fuse D) → Type 0
-  EndsBy (GiveFault fault) action state old lines new = ((left : NodeState) × Prints action state old lines left new) ⊎ ((why : Stop) × Halts why action state old lines new)
-  EndsBy (StoppedBy why) action state old lines new = Halts why action state old lines new × IsBlamed why old new
+  -- how an action ended the script: it was done, and its lines were not given; or memory lacked in it, and it has none
+  abbrev pub EndsBy : GiveFault → Action → NodeState → List (Fuse D) → List Line → List (Fuse D) → Type 0
+  EndsBy fault action state old lines new = ((left : NodeState) × Prints action state old lines left new) ⊎ ((fault ≡ NoMemory) × (lines ≡ []))
 
   -- the script ended in an action
-  pub record EndsPrinting (action : Action) (state : NodeState) (old new : List (Fuse D)) (end : ScriptEnd) (sink : Type 0) (before after : List ℕ) : Type 0 where
+  pub record EndsPrinting (action : Action) (state : NodeState) (old new : List (Fuse D)) (fault : GiveFault) (sink : Type 0) (before after : List ℕ) : Type 0 where
     pub lines : List Line
-    pub ends : EndsBy end action state old lines new
-    pub given : sink → IsGivenAt end before after lines
+    pub ends : EndsBy fault action state old lines new
+    pub given : sink → IsNotGiven fault before after (lines_text lines)
 
   -- the script ended in one of its actions
-  pub record EndsPlaying (actions : List Action) (old new : List (Fuse D)) (end : ScriptEnd) (sink : Type 0) (before after : List ℕ) : Type 0 where
+  pub record EndsPlaying (actions : List Action) (old new : List (Fuse D)) (fault : GiveFault) (sink : Type 0) (before after : List ℕ) : Type 0 where
     pub reached : Reached actions old
     pub more : List Line
-    pub ends : EndsBy end reached.action reached.middle reached.between more new
+    pub ends : EndsBy fault reached.action reached.middle reached.between more new
     pub counts : KeepsCounts kind.faults (kill_of reached.action ≡ None) reached.between new
-    pub given : sink → IsGivenAt end (before ++ lines_text reached.lines) after more
+    pub given : sink → IsNotGiven fault (before ++ lines_text reached.lines) after (lines_text more)
 
 -- The actions of some valid script went so, and it is the text's, where that is told. Before the first, the countdown may have been switched off.
 pub record PrintsOfSome {D : Type 0} (kind : disk.Ghosts D) (code : ℕ) (old new : List (Fuse D)) (source : Type 0) (text : List ℕ) (sink : Type 0) (before after : List ℕ) : Type 0 where

@@ -5,7 +5,6 @@ use Rattle.disk_model.specs.Devices.{DevicesTell, FuseRestarts}
 use Rattle.disk_model.specs.declared.disk.Disk as disk
 use Rattle.disk_model.specs.declared.fuse.Fuse.{Fuse}
 use Rattle.tmf_edges.specs.Moves.{AppendsPart}
-use Rattle.trail_replay.specs.declared.stop.Stop.TheVariants as stop
 use Rattle.tmf_edges.specs.declared.sink.Sink as sink
 use Rattle.tmf_model.specs.declared.config.Config.{Config}
 use Rattle.tmf_model.specs.declared.script.Action.{Action}
@@ -13,10 +12,6 @@ use Rattle.tmf_script.specs.Bank.{bank_script}
 use Rattle.tmf_lines.specs.declared.line.Line.{Line}
 use Rattle.tmf_lines.specs.Summary.{summary_text}
 use Rattle.tmf_cli.specs.declared.node.NodeState.{NodeState}
-use Rattle.tmf_cli.specs.declared.status.ScriptEnd.{ScriptEnd}
-use Rattle.tmf_cli.specs.declared.status.ScriptEnd.TheVariants.{GiveFault, Stopped}
-use Rattle.tmf_cli.specs.declared.status.Status.{Status}
-use Rattle.tmf_cli.specs.declared.status.Status.TheVariants as status
 use Rattle.tmf_cli.specs.ActionGiven.{KeepsSink}
 use Rattle.tmf_cli.specs.AnyDevices.{HavePrinted, Prints, PrintsBy}
 use Rattle.tmf_cli.specs.BetweenActions.{HasDone, OthersRestarted}
@@ -28,7 +23,6 @@ use Rattle.tmf_cli.specs.Faultless.{AreFaultless}
 use Rattle.tmf_cli.specs.Headline.{KeepsEveryCommit}
 use Rattle.tmf_cli.specs.OneOutput.{NoneRose}
 use Rattle.tmf_cli.specs.OutputLaw.{Candidate, MayStand, Node, ToldBy}
-use Rattle.tmf_cli.specs.Status.{fault_status}
 use Rattle.tmf_cli.specs.Top.{Opens}
 
 -- An action was done, and its lines stand behind those of the actions before.
@@ -48,13 +42,6 @@ pub record CollectsAll {D : Type 0} (held : D → Held) (faults : D → ℕ) (co
   pub left : Node
   pub told : ToldBy held faults config actions node old lines left new
   pub stands : MayStand held config new left.candidates
-
--- the status of a script that ended before its lines were to be summed up
-abbrev pub end_status : ScriptEnd → Status
-end_status (GiveFault fault) = fault_status fault
-end_status (Stopped stop.NoMemory) = status.NoMemory
-end_status (Stopped (stop.Failed device)) = status.Stopped
-end_status (Stopped (stop.Damaged device)) = status.Stopped
 
 -- all actions have their lines, and what these come to was to be given
 abbrev pub IsSummed : ℕ → Type 0
@@ -84,8 +71,7 @@ pub record PrintsBank {D : Type 0} (kind : disk.Ghosts D) (transfers code : ℕ)
 abbrev pub EndsBank : {D : Type 0} → disk.Ghosts D → ℕ → List (Fuse D) → List (Fuse D) → Type 0
 EndsBank kind transfers old new = (how : ℕ) × ((how ≡ 0) ⊎ (how ≡ 2)) × PrintsBy kind (bank_script transfers).config (bank_script transfers).actions how old new ⊥ [] []
 
--- What `tmf bank N` answers: status 0 where the five lines were given, 4 where the sink failed at them, and else 2, that of want of memory. It never has status 6, with which a device ends a script: only a
--- single run is ended so, and the run of the bank's script is none. No call is cut; where anything was begun, the countdown is off.
+-- What `tmf bank N` answers: status 0 where the five lines were given, 4 where the sink failed at them, and else 2, that of want of memory. No call is cut; where anything was begun, the countdown is off.
 pub record AnswersBank {K D : Type 0} (sinks : sink.Ghosts K) (disks : disk.Ghosts D) (transfers code : ℕ) (sink sink_now : K) (old new : List (Fuse D)) : Type 0 where
   pub status : IsSummed code ⊎ (code ≡ 2)
   pub told : (candidates : Option (List Candidate)) → DevicesTell disks.tells old → Opens disks.held (bank_script transfers) old candidates

@@ -1,17 +1,11 @@
 -- What is known of a node while its actions are carried out, and what one action makes of it.
-use Rattle.std.specs.Prelude.{◌≡◌, ◌≢◌, ◌⊎◌, ℕ, zero, suc, ◌≤◌, ◌^◌, List, [], ◌∷◌, length, slice_get, Option, Some, None, Result, Ok, Err}
+use Rattle.std.specs.Prelude.{◌≡◌, ◌⊎◌, ℕ, zero, suc, ◌≤◌, List, [], ◌∷◌, length, slice_get, Option, Some, None}
 use Rattle.disk_model.specs.Held.{Held}
 use Rattle.disk_model.specs.declared.fuse.Fuse.{Fuse}
 use Rattle.tmf_model.specs.declared.config.Config.{Config}
 use Rattle.tmf_model.specs.declared.script.Action.{Action}
-use Rattle.tmf_model.specs.declared.script.Action.TheVariants.{Run}
-use Rattle.tmf_model.specs.declared.script.Phase.{Phase}
-use Rattle.one_worker.specs.declared.stop.RunError.{RunError}
-use Rattle.one_worker.specs.declared.stop.RunError.TheVariants.{Stopped as DeviceStopped, Spent, Crowded, Lost}
-use Rattle.trail_replay.specs.declared.stop.Stop.{Stop}
-use Rattle.trail_replay.specs.declared.stop.Stop.TheVariants.{NoMemory, Failed as DeviceFailed, Damaged as DeviceDamaged}
-use Rattle.trail_replay.specs.Stop.{IsUndamagedStop}
-use Rattle.one_worker.specs.RunLaw.{IsUp, TrailsRest}
+use Rattle.tmf_model.specs.declared.config.FileLine.{FileLine}
+use Rattle.run_standing.specs.NodeUp.{IsNodeUp}
 use Rattle.tmf_lines.specs.declared.line.Line.{Line}
 use Rattle.tmf_lines.specs.declared.line.Line.TheVariants.{ListNotUp, ListFailed, ListDamaged}
 use Rattle.tmf_cli.specs.declared.node.NodeState.{NodeState}
@@ -20,23 +14,32 @@ use Rattle.tmf_lines.specs.Report.{device_name, file_name_of}
 use Rattle.tmf_cli.specs.OutputLaw.{Node, Candidate, MayStand, Does, Breaks}
 use Rattle.volume_recovery.specs.declared.errors.ListError.{ListError}
 use Rattle.volume_recovery.specs.declared.errors.ListError.TheVariants as listing
+use Rattle.volume_recovery.specs.Node.{TrailRests}
 use Rattle.volume_recovery.specs.VolumeAnswers.{lost_among}
 use Rattle.volume_recovery.specs.VolumeFormat.{IsNodeDevice}
 use Rattle.volume_recovery.specs.VolumeNode.{volume_device}
 use Rattle.keyed_file.specs.Volume.{IsLost, label_of}
 use Rattle.block_cache.specs.LabelDamage.{IsFineLabel}
+use Rattle.volume_restore.specs.Listed.{IsFineFile}
 use Rattle.block_cache.specs.Volume.{RestsFor}
 use Rattle.trail_files.specs.StandsFor.{IsNumber}
 use Rattle.tmf_model.specs.declared.config.Volume.{Volume}
-use Rattle.one_worker.specs.Loading.{AreReadable}
 use Rattle.tmf_cli.specs.Countdown.{IsSwitched, KeepsCounts}
-use Rattle.tmf_cli.specs.Lost.{AreLost, up_for}
+use Rattle.tmf_cli.specs.Lost.{AreLost}
 use Rattle.disk_model.specs.Devices.{FuseRestarts, KeepTelling, StayInPlace, held_at}
 use Rattle.disk_model.specs.declared.disk.Disk as disk
 
 -- the node with this state, whose devices may stand for these
 abbrev pub node_of : NodeState → Option (List Candidate) → Node
 node_of state candidates = record { state = state; candidates = candidates }
+
+-- each trail rests on its device, the monitor's too
+abbrev pub TrailsRest : Config → (ℕ → Held) → Type 0
+TrailsRest config held = (number : ℕ) → number ≤ length config.trails → TrailRests config held number
+
+-- of each file the volume has no label, or a fine one, and then each block of the file is fine
+abbrev pub AreReadable : Config → (ℕ → Held) → Type 0
+AreReadable config held = (file : ℕ) (line : FileLine) → IsNumber config.files file line → IsLost (held (volume_device line.volume)) ⊎ IsFineFile config line.volume file (held (volume_device line.volume))
 
 -- The devices of a node that is up: the trails rest, and the volumes; no label and no file is damaged; and the lost volumes are those that the node knows of.
 pub record IsReady (config : Config) (held : ℕ → Held) (up : Up) : Type 0 where
@@ -51,7 +54,7 @@ pub record IsReady (config : Config) (held : ℕ → Held) (up : Up) : Type 0 wh
 abbrev pub RestsUp : {D : Type 0} → (D → Held) → Config → List (Fuse D) → Up → Option (List Candidate) → Type 0
 RestsUp held config devices up None = IsReady config (held_at held devices) up
 RestsUp held config devices up (Some standings) =
-    IsReady config (held_at held devices) up × (s : Candidate) × (standings ≡ s ∷ []) × IsUp config (held_at held devices) s.list s.map up.epoch up.place × (lost_among (held_at held devices) (length config.volumes) ≡ s.lost)
+    IsReady config (held_at held devices) up × (s : Candidate) × (standings ≡ s ∷ []) × IsNodeUp config (held_at held devices) s.list s.map up.epoch × (lost_among (held_at held devices) (length config.volumes) ≡ s.lost)
 
 -- so they do where the node is up
 abbrev pub IfUp : {D : Type 0} → (D → Held) → Config → List (Fuse D) → Option Up → Option (List Candidate) → Type 0
@@ -69,47 +72,17 @@ pub record HasDone {D : Type 0} (held : D → Held) (faults : D → ℕ) (config
   pub does : Does held faults config action node old lines (node_of state candidates) new
   pub knows : Knows held config (node_of state candidates) new
 
--- the action is a run, and the node is up, with each volume that an item of the run names
-abbrev pub IsRunUp : Config → Action → Node → Type 0
-IsRunUp config action node = (phase : Phase) × (action ≡ Run phase) × (up_for config phase node.state ≢ None)
-
--- these of the lines that an action had to print can be given: all of them, or, for want of memory, none
-abbrev pub AreMade : Stop → List Line → List Line → Type 0
-AreMade NoMemory due lines = (lines ≡ due) ⊎ (lines ≡ [])
-AreMade (DeviceFailed device) due lines = lines ≡ due
-AreMade (DeviceDamaged device) due lines = lines ≡ due
-
--- a stop that a device made ends the script for the reason of its run; want of memory may also lack the lines of a run that ended for another
-abbrev pub IsEndOf : Stop → RunError → Type 0
-IsEndOf NoMemory why = Unit {0}
-IsEndOf (DeviceFailed device) why = why ≡ DeviceStopped (DeviceFailed device)
-IsEndOf (DeviceDamaged device) why = why ≡ DeviceStopped (DeviceDamaged device)
-
--- how a run ends the script; a disc without positions and a file without room count as want of memory, since a run has no line for them yet, and so does a lost volume, which only devices that
--- do not tell what they hold have where the node does not know of it
-abbrev pub end_of_run : {T : Type 0} → Result T RunError → Result T Stop
-end_of_run (Ok x) = Ok x
-end_of_run (Err (DeviceStopped stop)) = Err stop
-end_of_run (Err (Spent disc)) = Err NoMemory
-end_of_run (Err (Crowded file)) = Err NoMemory
-end_of_run (Err (Lost volume)) = Err NoMemory
-
--- The script ended in an action, with these lines: for want of memory, or because a device failed in a run of a node that is up.
-pub record HasBroken {D : Type 0} (held : D → Held) (faults : D → ℕ) (config : Config) (action : Action) (node : Node) (old : List (Fuse D)) (lines : List Line) (stop : Stop) (new : List (Fuse D)) : Type 0 where
+-- Memory lacked in an action: it was broken off, or its lines were not made. None of them is printed.
+pub record HasBroken {D : Type 0} (held : D → Held) (faults : D → ℕ) (config : Config) (action : Action) (node : Node) (old new : List (Fuse D)) : Type 0 where
   pub after : Node
   pub due : List Line
-  pub why : RunError
-  pub ends : IsEndOf stop why
-  pub breaks : Breaks held faults config why action node old due after new
-  pub made : AreMade stop due lines
+  pub breaks : Breaks held faults config action node old due after new
   pub stands : MayStand held config new after.candidates
-  pub run : (stop ≡ NoMemory) ⊎ IsRunUp config action node
-  pub undamaged : IsUndamagedStop stop
 
--- the next place, where the node is up, is far from the end of its type, and its epoch is one that a Start begins
+-- the epoch of a node that is up is one that a Start begins
 abbrev pub IsBounded : Option Up → Type 0
 IsBounded None = Unit {0}
-IsBounded (Some up) = (up.place ≤ 2 ^ 63) × (1 ≤ up.epoch)
+IsBounded (Some up) = 1 ≤ up.epoch
 
 -- so many restarts lead from one state of a fuse to another; where there is none, it was at most switched on or off
 abbrev pub RestartsTimes : {D : Type 0} → (Fuse D → Fuse D → Type 0) → ℕ → Fuse D → Fuse D → Type 0

@@ -1,7 +1,7 @@
 -- What a call of the program makes of its source, its sink and its devices, beside what it prints.
 use Rattle.std.specs.Prelude.{◌≡◌, ◌≢◌, ◌⊎◌, ◌≤◌, ℕ, Bool, List, [], ◌∷◌, take, drop, true, false, IsTrue}
 use Rattle.disk_model.specs.Held.{Rose}
-use Rattle.disk_model.specs.Devices.{DevicesTell, FuseRestarts, KeepTelling, NoneFalls, RoseAt, StayInPlace}
+use Rattle.disk_model.specs.Devices.{FuseRestarts, KeepTelling, NoneFalls, StayInPlace}
 use Rattle.disk_model.specs.declared.disk.Disk as disk
 use Rattle.disk_model.specs.declared.fuse.Fuse.{Fuse}
 use Rattle.tmf_edges.specs.Moves.{DropsPart}
@@ -10,11 +10,10 @@ use Rattle.tmf_edges.specs.declared.sink.Sink as sink
 use Rattle.tmf_model.specs.declared.script.Script.{Script}
 use Rattle.tmf_lines.specs.declared.line.Line.TheVariants.{Usage}
 use Rattle.tmf_cli.specs.BetweenActions.{OthersRestarted}
-use Rattle.tmf_cli.specs.Countdown.{IsOff, NoneCut, NoneFails, NoneKilled, OnceSwitched}
+use Rattle.tmf_cli.specs.Countdown.{IsOff, NoneCut, NoneKilled, OnceSwitched}
 use Rattle.tmf_lines.specs.Line.{lines_text}
 use Rattle.tmf_lines.specs.Script.{IsScriptOf}
-use Rattle.tmf_cli.specs.OutputLaw.{HasFailed}
-use Rattle.tmf_cli.specs.Top.{read_limit, EndsStopped, IsGiven, IsPlayed, IsRead, IsScript, TellsRefusal}
+use Rattle.tmf_cli.specs.Top.{read_limit, IsGiven, IsPlayed, IsRead, IsScript, TellsRefusal}
 
 -- Words that are not accepted: the sink is given the usage line, or nothing where memory lacks, and source and devices are left alone.
 pub record AnswersUsage {S K D : Type 0} (kind : sink.Ghosts K) (code : ℕ) (source source_now : S) (sink sink_now : K) (old new : List (Fuse D)) : Type 0 where
@@ -30,21 +29,16 @@ pub record AnswersNoScript {S K D : Type 0} (sources : source.Ghosts S) (sinks :
   pub silent : IsTrue (sinks.tells sink) → code ≡ 2 → sinks.given sink_now ≡ sinks.given sink
   pub devices : new ≡ old
 
--- A script: without a fault its status is 0 or 2, where a call that the countdown cuts is a fault of its device, and without `kill` none is cut; it is not refused, and only a fault of
--- a device stops it, which the last line names. Only devices of its configuration are worked on; the others may be restarted. Where anything was begun, the countdown is off, and so it is where all lines were given, or the sink or a device ended the script.
+-- A script: where neither the source nor the sink fails, its status is 0 or 2, whatever the devices; and it is not refused. Only devices of its configuration are worked on; the others may be
+-- restarted. Without `kill` no call is cut. Where anything was begun, the countdown is off, and so it is where all lines were given, or the sink ended the script.
 pub record AnswersScript {S K D : Type 0} (sources : source.Ghosts S) (sinks : sink.Ghosts K) (disks : disk.Ghosts D) (accepted : Bool) (script : Script) (code : ℕ)
     (source source_now : S) (sink sink_now : K) (old new : List (Fuse D)) : Type 0 where
-  pub complete : accepted ≡ true → DevicesTell disks.tells old → ¬ Rose (sources.faults source) (sources.faults source_now) → ¬ Rose (sinks.faults sink) (sinks.faults sink_now)
-      → ((device : ℕ) → ¬ RoseAt disks.faults old new device) → (code ≡ 0) ⊎ (code ≡ 2)
+  pub complete : accepted ≡ true → ¬ Rose (sources.faults source) (sources.faults source_now) → ¬ Rose (sinks.faults sink) (sinks.faults sink_now) → (code ≡ 0) ⊎ (code ≡ 2)
   pub unrefused : code ≢ 5
-  pub stopped : DevicesTell disks.tells old → code ≡ 6 → (device : ℕ) × HasFailed disks.faults script.config old new device
-  pub unkilled : accepted ≡ true → DevicesTell disks.tells old → ¬ Rose (sources.faults source) (sources.faults source_now) → ¬ Rose (sinks.faults sink) (sinks.faults sink_now)
-      → NoneKilled script.actions → NoneFails disks.faults old new → (code ≡ 0) ⊎ (code ≡ 2)
   pub others : OnceSwitched (λ opened. OthersRestarted script.config (FuseRestarts disks) opened new) old
   pub uncut : NoneKilled script.actions → NoneCut old new
   pub off : (new ≡ old) ⊎ IsOff new
   pub played_off : IsPlayed code → IsOff new
-  pub stop_line : IsTrue (sinks.tells sink) → code ≡ 6 → EndsStopped script.config (HasFailed disks.faults script.config old new) (sinks.given sink) (sinks.given sink_now)
 
 -- What the front of the source makes of the call: it is the text of a script, or of none.
 pub record AnswersText {S K D : Type 0} (sources : source.Ghosts S) (sinks : sink.Ghosts K) (disks : disk.Ghosts D) (accepted : Bool) (code : ℕ) (source source_now : S) (sink sink_now : K) (old new : List (Fuse D)) : Type 0 where
@@ -53,7 +47,7 @@ pub record AnswersText {S K D : Type 0} (sources : source.Ghosts S) (sinks : sin
 
 -- Each status but 0 and 2 has its cause, and its lines.
 pub record HasStatus {S K D : Type 0} (sources : source.Ghosts S) (sinks : sink.Ghosts K) (accepted : Bool) (code : ℕ) (source source_now : S) (sink sink_now : K) (old new : List (Fuse D)) : Type 0 where
-  pub known : code ≤ 6
+  pub known : code ≤ 5
   pub usage : code ≡ 1 → accepted ≡ false
   pub source_failed : code ≡ 3 → Rose (sources.faults source) (sources.faults source_now)
   pub silent : IsTrue (sinks.tells sink) → code ≡ 3 → sinks.given sink_now ≡ sinks.given sink

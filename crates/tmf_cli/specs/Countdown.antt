@@ -1,8 +1,8 @@
 -- The countdown of a bay: which actions it may cut off, and what is so of the fuses behind them.
-use Rattle.std.specs.Prelude.{◌≡◌, ◌⊎◌, ◌<◌, ◌-◌, ◌^◌, ℕ, List, slice_get, Option, Some, None, false}
+use Rattle.std.specs.Prelude.{◌≡◌, ◌⊎◌, ℕ, List, slice_get, Option, Some, None, false}
 use Rattle.std.specs.List.{AllByRecursion}
 use Rattle.disk_model.specs.Devices.{EachFuse, NoneFalls}
-use Rattle.disk_model.specs.Fuse.{cuts_of, device_of, fuse_faults, is_armed}
+use Rattle.disk_model.specs.Fuse.{cuts_of, device_of, is_armed}
 use Rattle.disk_model.specs.declared.fuse.Fuse.{Fuse}
 use Rattle.tmf_model.specs.declared.script.Action.{Action}
 use Rattle.tmf_model.specs.declared.script.Action.TheVariants.{Format, Recover, Run, Lose, Rollforward, List as ListFile}
@@ -45,7 +45,3 @@ Switches old new = EachFuse IsSwitched old new
 -- this is so of the devices as they were handed in; or once the countdown was switched off
 abbrev pub OnceSwitched : {D : Type 0} → (List (Fuse D) → Type 0) → List (Fuse D) → Type 0
 OnceSwitched {D} P old = P old ⊎ ((opened : List (Fuse D)) × Switches old opened × IsOff opened × P opened)
-
--- each device's own count is what it was, and its fuse's does not stand at the end of its type
-abbrev pub NoneFails : {D : Type 0} → (D → ℕ) → List (Fuse D) → List (Fuse D) → Type 0
-NoneFails faults old new = EachFuse (λ a b. (fuse_faults faults a < 2 ^ 64 - 1) × (faults (device_of b) ≡ faults (device_of a))) old new

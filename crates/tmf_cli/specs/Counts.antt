@@ -8,9 +8,8 @@ use Rattle.run_outcomes.specs.Devices.{devices}
 use Rattle.run_outcomes.specs.Run.{RoseBy}
 use Rattle.tmf_lines.specs.Report.{node_device_name}
 use Rattle.tmf_lines.specs.declared.line.DeviceName.{DeviceName}
-use Rattle.tmf_lines.specs.declared.line.DeviceTrouble.TheVariants as trouble
 use Rattle.tmf_lines.specs.declared.line.Line.{Line}
-use Rattle.tmf_lines.specs.declared.line.Line.TheVariants.{AttemptFailed, DumpsFailed, Failed, Hanging, InDoubt, ListFailed, LoseFailed, RollFailed, RunFailed, Stopped}
+use Rattle.tmf_lines.specs.declared.line.Line.TheVariants.{AttemptFailed, DumpsFailed, Failed, Hanging, InDoubt, ListFailed, LoseFailed, RollFailed, RunFailed}
 use Rattle.tmf_model.specs.Config.{IsValidConfig}
 use Rattle.tmf_model.specs.Script.{IsValidAction}
 use Rattle.tmf_model.specs.declared.config.Config.{Config}
@@ -31,7 +30,6 @@ failed_of (RunFailed device) = Some device
 failed_of (LoseFailed volume) = Some (plain_name volume)
 failed_of (RollFailed volume device) = Some device
 failed_of (ListFailed file name) = Some (plain_name name)
-failed_of (Stopped name trouble.Failed) = Some (plain_name name)
 failed_of (AttemptFailed tx device) = Some device
 failed_of (InDoubt tx device) = Some device
 failed_of (Hanging tx device) = Some device

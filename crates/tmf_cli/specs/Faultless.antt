@@ -7,7 +7,7 @@ use Rattle.tmf_model.specs.declared.config.Config.{Config}
 use Rattle.tmf_model.specs.declared.script.Action.{Action}
 use Rattle.run_outcomes.specs.Devices.{devices}
 use Rattle.tmf_lines.specs.declared.line.Line.{Line}
-use Rattle.tmf_lines.specs.declared.line.Line.TheVariants.{Aborted, AttemptDamaged, AttemptFailed, Busy, Committed, Controlled, Damaged, Dumped, Dumping, DumpsFailed, Entry, EpochsSpent, Failed, Formatted, Full, Hanging, HangingDamaged, HangingMemory, InDoubt, ListDamaged, ListFailed, ListNotUp, Listed, LoseFailed, LostVolume, Memory, NoDump, NotLost, NotScript, NotUp, Read, ReadAbsent, Recorded, Recovered, Refused, Removed, RollDamaged, RollFailed, RollNotUp, Rolled, RunDamaged, RunFailed, Skipped, Spent, SpentWorker, Stopped, Usage}
+use Rattle.tmf_lines.specs.declared.line.Line.TheVariants.{Aborted, AttemptDamaged, AttemptFailed, Busy, Committed, Controlled, Damaged, Dumped, Dumping, DumpsFailed, Entry, EpochsSpent, Failed, Formatted, Full, Hanging, HangingDamaged, HangingMemory, InDoubt, ListDamaged, ListFailed, ListNotUp, Listed, LoseFailed, LostVolume, Memory, NoDump, NotLost, NotScript, NotUp, Read, ReadAbsent, Recorded, Recovered, Refused, Removed, RollDamaged, RollFailed, RollNotUp, Rolled, RunDamaged, RunFailed, Skipped, Spent, SpentWorker, Usage}
 use Rattle.tmf_lines.specs.Line.{lines_text}
 use Rattle.tmf_cli.specs.OneOutput.{BeginsWithFormat, NoneRose}
 use Rattle.tmf_cli.specs.OutputLaw.{Candidate, Node, ToldBy}
@@ -29,7 +29,6 @@ IsFaultless (AttemptDamaged tx device damage) = ⊥
 IsFaultless (InDoubt tx device) = ⊥
 IsFaultless (Hanging tx device) = ⊥
 IsFaultless (HangingDamaged tx device damage) = ⊥
-IsFaultless (Stopped name trouble) = ⊥
 IsFaultless Formatted = Unit {0}
 IsFaultless (Committed tx place) = Unit {0}
 IsFaultless (Read tx op value) = Unit {0}

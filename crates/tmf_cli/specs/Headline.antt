@@ -1,6 +1,6 @@
 -- The promise of the program: no commit whose line it prints is lost, none is there in part, and beside what stood before nothing is there of any other transaction, but for those whose
 -- lines leave it in doubt.
-use Rattle.std.specs.Prelude.{◌≡◌, ◌≢◌, ◌⊎◌, ℕ, Bool, suc, ◌+◌, ◌-◌, ◌≤◌, ◌<◌, ◌==◌, List, [], ◌∷◌, ◌++◌, length, fold, Contains, Option, Some, None, true, false, slice_get, unwrap_or, if◌then◌else◌}
+use Rattle.std.specs.Prelude.{◌≡◌, ◌⊎◌, ℕ, Bool, suc, ◌-◌, ◌≤◌, ◌<◌, ◌==◌, List, [], ◌∷◌, ◌++◌, length, fold, Contains, Option, Some, None, true, false, slice_get, unwrap_or, if◌then◌else◌}
 use Rattle.std.specs.List.{AllByRecursion, filter_map}
 use Rattle.disk_model.specs.Held.{Held}
 use Rattle.disk_model.specs.declared.fuse.Fuse.{Fuse}
@@ -20,15 +20,14 @@ use Rattle.tmf_lines.specs.declared.line.Line.{Line}
 use Rattle.tmf_lines.specs.declared.line.Line.TheVariants.{Formatted, Committed, InDoubt, LoseFailed, Removed, RollFailed, Rolled}
 use Rattle.tmf_cli.specs.declared.node.NodeState.{NodeState}
 use Rattle.tmf_cli.specs.declared.node.Up.{Up}
-use Rattle.tmf_cli.specs.Single.{IsSingle, items_of}
+use Rattle.tmf_cli.specs.Single.{IsSingle}
 use Rattle.tmf_lines.specs.Line.{lines_text}
 use Rattle.tmf_lines.specs.Report.{volume_name}
 use Rattle.rollforward.specs.RolledNode.{without}
 use Rattle.tmf_cli.specs.Ending.{EndsIn, opening}
-use Rattle.tmf_cli.specs.BetweenActions.{IsRunUp}
 use Rattle.tmf_cli.specs.Lost.{lost_with}
-use Rattle.tmf_cli.specs.OutputLaw.{BarsRuns, Candidate, Node, OneOf, StandsAs, ToldBy, formatted_candidate, formatted_node}
-use Rattle.disk_model.specs.Devices.{AreImages, HoldSame, RoseAt, held_at}
+use Rattle.tmf_cli.specs.OutputLaw.{Candidate, Node, OneOf, StandsAs, ToldBy, formatted_candidate, formatted_node}
+use Rattle.disk_model.specs.Devices.{AreImages}
 
 -- a run that was carried out, whole or in part, with its epoch
 pub record RunDone : Type 0 where
@@ -44,9 +43,9 @@ meaning_in (run ∷ runs) tx = if tx.epoch == run.epoch then script_transaction 
 abbrev pub AreOf : List Action → List RunDone → Type 0
 AreOf actions runs = AllByRecursion (λ run. Contains actions (action.Run run.phase)) runs
 
--- each run of which the records have a commit is single: of one worker, of transactions alone, not cut off, and with no lowered limit of its events
-abbrev pub AreOfSingle : Config → List RunDone → List MonitorRecord → Type 0
-AreOfSingle config runs records = (run : RunDone) (tx : Transid) → Contains runs run → Contains records (Commit tx) → tx.epoch ≡ run.epoch → IsSingle config run.phase
+-- each run of which the records have a commit is single: of one worker, and of transactions alone
+abbrev pub AreOfSingle : List RunDone → List MonitorRecord → Type 0
+AreOfSingle runs records = (run : RunDone) (tx : Transid) → Contains runs run → Contains records (Commit tx) → tx.epoch ≡ run.epoch → IsSingle run.phase
 
 -- the runs are of rising epochs, the first from `low` on and all below `high`
 abbrev pub AreRising : ℕ → ℕ → List RunDone → Type 0
@@ -57,6 +56,16 @@ AreRising low high (run ∷ runs) = (low ≤ run.epoch) × AreRising (suc run.ep
 abbrev pub acknowledged_by : Line → Option Transid
 acknowledged_by (Committed tx place) = Some tx
 acknowledged_by line = None
+
+-- the place of a commit that a line acknowledges
+abbrev pub place_told : Line → Option ℕ
+place_told (Committed tx place) = Some place
+place_told line = None
+
+-- each of these numbers is above the one before it, and above this one
+abbrev pub AreAbove : ℕ → List ℕ → Type 0
+AreAbove low [] = Unit {0}
+AreAbove low (n ∷ rest) = (low < n) × AreAbove n rest
 
 -- the transaction whose commit a line leaves in doubt
 abbrev pub doubted_by : Line → Option Transid
@@ -94,22 +103,23 @@ MayHaveLost config (line ∷ lines) old new = (between : List ℕ) × MayMove co
 abbrev pub acknowledged : List Line → List Transid
 acknowledged lines = filter_map acknowledged_by lines
 
+-- the places of these commits, in that order
+abbrev pub places_told : List Line → List ℕ
+places_told lines = filter_map place_told lines
+
 -- the transactions whose commits they leave in doubt, in order
 abbrev pub doubted : List Line → List Transid
 doubted lines = filter_map doubted_by lines
 
 -- One list and map become another by runs of which the lines tell.
-pub record Extends (config : Config) (most low high : ℕ) (runs : List RunDone) (lines : List Line) (s t : Candidate) : Type 0 where
+pub record Extends (config : Config) (low high : ℕ) (runs : List RunDone) (lines : List Line) (s t : Candidate) : Type 0 where
   -- the one list goes on
   pub records : List MonitorRecord
   pub list : t.list ≡ s.list ++ records
-  -- of its new commits each is one that the lines acknowledge or leave in doubt, or one of at most so many more that were in flight; none stands twice, since a list that images spell ends no
-  -- attempt again
-  pub in_flight : List Transid
-  pub few : length in_flight ≤ most
-  pub no_other : (tx : Transid) → Contains records (Commit tx) → Contains (acknowledged lines) tx ⊎ Contains (doubted lines) tx ⊎ Contains in_flight tx
-  -- where each of them is of a single run, they are those that the lines acknowledge, in their order, and then those in flight
-  pub in_order : AreOfSingle config runs records → commits_of records ≡ acknowledged lines ++ in_flight
+  -- of its new commits each is one that the lines acknowledge or leave in doubt; none stands twice, since a list that images spell ends no attempt again
+  pub no_other : (tx : Transid) → Contains records (Commit tx) → Contains (acknowledged lines) tx ⊎ Contains (doubted lines) tx
+  -- where each of them is of a single run, the lines acknowledge them in the order in which they stand, all behind the list
+  pub in_order : AreOfSingle runs records → AreAbove (length s.list) (places_told lines)
   -- each acknowledged one is new, and stands at its place
   pub places : (tx : Transid) (place : ℕ) → Contains lines (Committed tx place) → (length s.list < place) × (slice_get t.list (place - 1) ≡ Some (Commit tx))
   -- the map is the fold of the script's transactions over the new commits
@@ -131,15 +141,15 @@ next_run None list = suc (epoch_of list)
 next_run (Some up) list = epoch_of list
 
 -- every standing after actions comes so of one before them
-abbrev pub AllExtend : Config → ℕ → List RunDone → List Line → NodeState → NodeState → Option (List Candidate) → Option (List Candidate) → Type 0
-AllExtend config most runs lines old new None after = after ≡ None
-AllExtend config most runs lines old new (Some before) after = (others : List Candidate) × (after ≡ Some others)
-    × ((t : Candidate) → OneOf (λ o. o ≡ t) others → (s : Candidate) × OneOf (λ o. o ≡ s) before × Extends config most (next_run old.up s.list) (next_run new.up t.list) runs lines s t)
+abbrev pub AllExtend : Config → List RunDone → List Line → NodeState → NodeState → Option (List Candidate) → Option (List Candidate) → Type 0
+AllExtend config runs lines old new None after = after ≡ None
+AllExtend config runs lines old new (Some before) after = (others : List Candidate) × (after ≡ Some others)
+    × ((t : Candidate) → OneOf (λ o. o ≡ t) others → (s : Candidate) × OneOf (λ o. o ≡ s) before × Extends config (next_run old.up s.list) (next_run new.up t.list) runs lines s t)
 
--- a node that is up knows the epoch of its list, and the place behind it
+-- a node that is up knows the epoch of its list
 abbrev pub KnowsList : NodeState → Option (List Candidate) → Type 0
 KnowsList state None = Unit {0}
-KnowsList state (Some standings) = (up : Up) (s : Candidate) → state.up ≡ Some up → OneOf (λ o. o ≡ s) standings → (up.epoch ≡ epoch_of s.list) × (up.place ≡ length s.list + 1)
+KnowsList state (Some standings) = (up : Up) (s : Candidate) → state.up ≡ Some up → OneOf (λ o. o ≡ s) standings → up.epoch ≡ epoch_of s.list
 
 -- the line of a whole format, which begins anew
 abbrev pub is_formatted : Line → Bool
@@ -154,7 +164,7 @@ IsOrigin before earlier origin =
     ⊎ ((origin.candidates ≡ None) × (origin.state.formatted ≡ false))
 
 -- The headline of a row of actions: whatever may stand at their end extends, by the script's runs behind its origin, what stood there.
-pub record EndsByScript (config : Config) (most : ℕ) (actions : List Action) (before after : Node) (lines : List Line) : Type 0 where
+pub record EndsByScript (config : Config) (actions : List Action) (before after : Node) (lines : List Line) : Type 0 where
   pub origin : Node
   pub earlier : List Line
   pub later : List Line
@@ -164,14 +174,14 @@ pub record EndsByScript (config : Config) (most : ℕ) (actions : List Action) (
   pub formatted : after.state.formatted ≡ origin.state.formatted
   pub runs : List RunDone
   pub of_script : AreOf actions runs
-  pub extends : AllExtend config most runs later origin.state after.state origin.candidates after.candidates
+  pub extends : AllExtend config runs later origin.state after.state origin.candidates after.candidates
   pub knows : KnowsList after.state after.candidates
 
 -- what the law of the output gives of any row of actions: the promise, behind their last format
 abbrev pub CallHeadline : {D : Type 0} → (D → Held) → (D → ℕ) → Config → Type 0
 CallHeadline {D} held faults config =
     (actions : List Action) (before after : Node) (old new : List (Fuse D)) (lines : List Line)
-    → KnowsList before.state before.candidates → ToldBy held faults config actions before old lines after new → EndsByScript config 0 actions before after lines
+    → KnowsList before.state before.candidates → ToldBy held faults config actions before old lines after new → EndsByScript config actions before after lines
 
 -- OF A CALL
 
@@ -183,14 +193,14 @@ since candidates lines =
 
 -- The images stand for a list and a map to which the runs, of which the lines tell, have led from one that could stand before them, and have lost the volumes that are named with these. Nothing is
 -- said where it is not known what could.
-abbrev pub StandBy : ℕ → Config → List RunDone → Option (List Candidate) × List Line → (ℕ → Held) → Type 0
-StandBy most config runs (None, lines) images = Unit {0}
-StandBy most config runs (Some before, lines) images =
-    (s t : Candidate) × (low high : ℕ) × OneOf (λ o. o ≡ s) before × StandsAs config images t × Extends config most low high runs lines s t
+abbrev pub StandBy : Config → List RunDone → Option (List Candidate) × List Line → (ℕ → Held) → Type 0
+StandBy config runs (None, lines) images = Unit {0}
+StandBy config runs (Some before, lines) images =
+    (s t : Candidate) × (low high : ℕ) × OneOf (λ o. o ≡ s) before × StandsAs config images t × Extends config low high runs lines s t
 
 -- the script ended in one of its actions, with these lines to print, and left the node so
 abbrev pub EndsWith : {D : Type 0} {held : D → Held} {faults : D → ℕ} {config : Config} {node : Node} {actions : List Action} {old new : List (Fuse D)} → EndsIn held faults config node actions old new → List Line → Node → Type 0
-EndsWith ends lines left = (lines ≡ ends.reaches.lines ++ (ends.more ++ ends.last)) × (left ≡ ends.left)
+EndsWith ends lines left = (lines ≡ ends.reaches.lines ++ ends.more) × (left ≡ ends.left)
 
 -- The actions that a call began had these lines to print, and left the node so: all actions; or first ones, and then the one in which the script ended; or none.
 abbrev pub Went : {D : Type 0} → (D → Held) → (D → ℕ) → Script → Node → List (Fuse D) → List Line → Node → List (Fuse D) → Type 0
@@ -199,42 +209,15 @@ Went held faults script node old lines left new =
     ⊎ ((ends : EndsIn held faults script.config node script.actions old new) × EndsWith ends lines left)
     ⊎ ((lines ≡ []) × (left ≡ node) × (new ≡ old))
 
--- so many commits may be in flight: none; or one, with another status than 0, where the script, with these lines and this node, ended in a single run of a node that was up, in which the device of the
--- monitor trail has failed
-abbrev pub MayBeInFlight : {D : Type 0} → (D → Held) → (D → ℕ) → Script → Option (List Candidate) → ℕ → List (Fuse D) → List (Fuse D) → List Line → Node → ℕ → Type 0
-MayBeInFlight held faults script candidates status old new lines left most =
-    (most ≡ 0)
-    ⊎ ((most ≡ 1) × (status ≢ 0) × ((ends : EndsIn held faults script.config (opening candidates) script.actions old new) × EndsWith ends lines left
-    × ((run : IsRunUp script.config ends.reaches.action ends.reaches.middle) × IsSingle script.config run.0) × RoseAt faults ends.reaches.between new 0))
-
--- The action is a single run of a node that was up, with each volume that its items name, and by what labels and trails said before it a disc was spent: the run is refused, unless memory lacks or a
--- device fails first.
-abbrev pub IsRefusedRun : {D : Type 0} → (D → Held) → Config → Action → Node → List (Fuse D) → Type 0
-IsRefusedRun held config action node devices = (run : IsRunUp config action node) × IsSingle config run.0 × BarsRuns config (held_at held devices) (items_of run.0)
-
--- A run in which a script ended has done nothing: the devices hold what they held before it, it has no line of an outcome, and whatever a crash leaves of them stands as it did behind the
--- actions before it, with no commit in flight.
-pub record LeavesAsBefore {D : Type 0} (held : D → Held) (faults : D → ℕ) (script : Script) (candidates : Option (List Candidate)) (old new : List (Fuse D))
-    (ends : EndsIn held faults script.config (opening candidates) script.actions old new) : Type 0 where
-  pub same : HoldSame held ends.reaches.between new
-  pub silent : ends.more ≡ []
-  pub runs : List RunDone
-  pub of_actions : AreOf ends.reaches.done runs
-  pub keeps : ends.reaches.middle.state.formatted ≡ true → (images : ℕ → Held) → AreImages held new images → StandBy 0 script.config runs (since candidates ends.reaches.lines) images
-
--- The promise of a call. Its actions had some lines to print, and the sink was given a front of their text: all of it with status 0 or 6. However the call ended, whatever a crash
+-- The promise of a call. Its actions had some lines to print, and the sink was given a front of their text: all of it with status 0. However the call ended, whatever a crash
 -- then leaves of the devices stands for one monitor list and one map. Since the last whole format, the list has gone on by every commit that those lines acknowledge, each at its
--- place, by none besides but those that they leave in doubt, and, where it ended in a single run in which the device of the monitor trail has failed, at most one more, which was in flight; and the map is the fold of the script's transactions over exactly these. Nothing is said where the last format that was
--- begun is not whole. A refused single run in which the script ended has done nothing.
+-- place, and by none besides but those that they leave in doubt; and the map is the fold of the script's transactions over exactly these. Nothing is said where the last format that was
+-- begun is not whole.
 pub record KeepsEveryCommit {D : Type 0} (held : D → Held) (faults : D → ℕ) (script : Script) (candidates : Option (List Candidate)) (status : ℕ) (old new : List (Fuse D)) (sink : Type 0) (before after : List ℕ) : Type 0 where
   pub lines : List Line
   pub left : Node
   pub went : Went held faults script (opening candidates) old lines left new
-  pub given : sink → (text rest : List ℕ) × (after ≡ before ++ text) × (lines_text lines ≡ text ++ rest) × ((status ≡ 0) ⊎ (status ≡ 6) → rest ≡ [])
+  pub given : sink → (text rest : List ℕ) × (after ≡ before ++ text) × (lines_text lines ≡ text ++ rest) × (status ≡ 0 → rest ≡ [])
   pub runs : List RunDone
   pub of_script : AreOf script.actions runs
-  pub most : ℕ
-  pub few : MayBeInFlight held faults script candidates status old new lines left most
-  pub keeps : left.state.formatted ≡ true → (images : ℕ → Held) → AreImages held new images → StandBy most script.config runs (since candidates lines) images
-  pub refused : (ends : EndsIn held faults script.config (opening candidates) script.actions old new) → IsRefusedRun held script.config ends.reaches.action ends.reaches.middle ends.reaches.between
-      → LeavesAsBefore held faults script candidates old new ends
+  pub keeps : left.state.formatted ≡ true → (images : ℕ → Held) → AreImages held new images → StandBy script.config runs (since candidates lines) images

@@ -11,7 +11,6 @@ pub mod Faultless
 pub mod Headline
 pub mod Lost
 pub mod OneOutput
-pub mod Outcomes
 pub mod OutputLaw
 pub mod ReadScript
 pub mod Rolling

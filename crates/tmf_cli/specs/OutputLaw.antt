@@ -1,29 +1,19 @@
 -- The law of the output: which lines each action prints, by the state of the node and by what its devices stand for, and what it leaves of both.
-use Rattle.std.specs.Prelude.{◌≡◌, ◌≢◌, ◌⊎◌, ℕ, ◌+◌, ◌≤◌, true, false, max, List, [], ◌∷◌, ◌++◌, length, flat_map, map, Contains, Option, Some, None, Ok, Err}
+use Rattle.std.specs.Prelude.{◌≡◌, ◌≢◌, ◌⊎◌, ℕ, ◌≤◌, true, false, max, List, [], ◌∷◌, ◌++◌, length, flat_map, map, Contains, Option, Some, None, Ok, Err}
 use Rattle.disk_model.specs.Held.{Held}
 use Rattle.disk_model.specs.Devices.{AreImages, DeviceAt, HoldSame, RoseAt, SameBut, held_at}
 use Rattle.disk_model.specs.declared.fuse.Fuse.{Fuse}
 use Rattle.tmf_model.specs.declared.config.Config.{Config}
 use Rattle.tmf_model.specs.declared.script.Action.{Action}
 use Rattle.tmf_model.specs.declared.script.Action.TheVariants.{Format, Recover, Run, Lose, Rollforward, List as ListFile}
-use Rattle.tmf_model.specs.declared.script.Item.{Item}
 use Rattle.tmf_model.specs.declared.script.Phase.{Phase}
 use Rattle.tmf_model.specs.Config.{IsDeclared}
 use Rattle.tmf_model.specs.RecordMap.{RecordMap, empty_map, IsListing}
-use Rattle.one_worker.specs.declared.outcome.Outcome.{Outcome}
-use Rattle.one_worker.specs.Outcome.{AreOutcomes, map_left, records_left}
-use Rattle.one_worker.specs.Loading.{IsVolumeDevice}
-use Rattle.one_worker.specs.RunLaw.{AreAdded, IsBarred, IsOfNode, IsRunCause, MayRun}
-use Rattle.trail_replay.specs.Texts.{TrailsSpell}
-use Rattle.one_worker.specs.Stop.{run_in_flight}
-use Rattle.one_worker.specs.declared.stop.RunError.{RunError}
-use Rattle.one_worker.specs.declared.stop.RunError.TheVariants.{Stopped as DeviceStopped, Spent, Crowded, Lost}
-use Rattle.trail_replay.specs.declared.stop.Stop.TheVariants.{NoMemory, Failed as DeviceFailed, Damaged as DeviceDamaged}
-use Rattle.trail_files.specs.declared.audit_record.AuditRecord.{AuditRecord}
 use Rattle.trail_files.specs.declared.monitor_record.MonitorRecord.{MonitorRecord}
 use Rattle.trail_files.specs.declared.monitor_record.MonitorRecord.TheVariants.{Start}
 use Rattle.trail_files.specs.StandsFor.{Base}
 use Rattle.keyed_file.specs.Volume.{IsLost}
+use Rattle.block_cache.specs.Created.{IsSurelyLost}
 use Rattle.block_cache.specs.Volume.{HasBase}
 use Rattle.volume_restore.specs.Bases.{volume_on}
 use Rattle.volume_restore.specs.Formatted.{IsCleared, IsEmptied}
@@ -39,22 +29,27 @@ use Rattle.volume_recovery.specs.Node.{next_epoch}
 use Rattle.volume_recovery.specs.VolumeAnswers.{RecoversWithVolumes, lost_among}
 use Rattle.volume_recovery.specs.VolumeFormat.{IsNodeDevice}
 use Rattle.volume_recovery.specs.VolumeListing.{file_device}
+use Rattle.volume_recovery.specs.VolumeLoop.{IsUsed}
 use Rattle.volume_recovery.specs.VolumeNode.{StandsWithVolumes, dump_device, volume_device}
 use Rattle.tmf_lines.specs.declared.line.ActionKind.TheVariants as asked
 use Rattle.tmf_lines.specs.declared.line.Line.{Line}
 use Rattle.tmf_lines.specs.declared.line.Line.TheVariants.{Formatted, Removed, LoseFailed, Rolled, RollNotUp, NotLost, NoDump, RollFailed, RollDamaged, NotUp, Failed, Damaged, EpochsSpent, ListNotUp, ListFailed, RunDamaged, RunFailed}
+use Rattle.single_law.specs.NoDump.{AllTransactions}
 use Rattle.tmf_cli.specs.Single.{IsSingle, items_of}
 use Rattle.tmf_lines.specs.Report.{device_name, file_name_of, format_failure, listed_lines, node_device_name, recovered_lines, volume_name}
 use Rattle.tmf_cli.specs.declared.node.NodeState.{NodeState}
 use Rattle.tmf_cli.specs.declared.node.Up.{Up}
 use Rattle.tmf_cli.specs.Countdown.{KeepsCounts, Switches, kill_of}
-use Rattle.tmf_cli.specs.Outcomes.{outcome_lines}
 use Rattle.tmf_cli.specs.RunLines.{run_lines}
-use Rattle.run_outcomes.specs.Devices.{fuse_kind}
+use Rattle.single_law.specs.Left.{records_left}
+use Rattle.single_law.specs.Row.{AreInRow}
+use Rattle.single_law.specs.Single.{HaveEnded}
+use Rattle.run_outcomes.specs.Devices.{devices, fuse_kind}
 use Rattle.node_machine.specs.Same.{Among}
-use Rattle.run_outcomes.specs.Run.{HasNotRun, HasRun as HasRunOnThreads, IsUnfit, volumes_named}
+use Rattle.run_outcomes.specs.Run.{HasNotRun, HasRun, IsUnfit, volumes_named}
 use Rattle.run_outcomes.specs.Told.{IsRecordOf}
-use Rattle.run_outcomes.specs.declared.outcome.Outcome.{Outcome as RunOutcome}
+use Rattle.run_outcomes.specs.Outcomes.{is_last}
+use Rattle.run_outcomes.specs.declared.outcome.Outcome.{Outcome}
 use Rattle.run_outcomes.specs.declared.outcome.PhaseError.{PhaseError}
 use Rattle.run_outcomes.specs.declared.outcome.PhaseError.TheVariants as phase_error
 use Rattle.run_outcomes.specs.declared.outcome.Told.TheVariants.{Committed as ToldCommitted}
@@ -94,11 +89,7 @@ MayStand held config devices (Some standings) = (images : ℕ → Held) → AreI
 abbrev pub down : NodeState → NodeState
 down state = record state { up = None }
 
--- what a standing becomes by what first items of a run come to
-abbrev pub with_outcomes : List Item → ℕ → List Outcome → Candidate → Candidate
-with_outcomes items epoch outcomes s = record { list = s.list ++ records_left outcomes; map = map_left items epoch outcomes s.map; lost = s.lost }
-
--- what it becomes by records of a run on threads, whose commits are those of the script's transactions
+-- what a standing becomes by records of a run, whose commits are those of the script's transactions
 abbrev pub with_records : Phase → ℕ → List MonitorRecord → Candidate → Candidate
 with_records phase epoch records s = record { list = s.list ++ records; map = map_behind phase epoch records s.map; lost = s.lost }
 
@@ -152,7 +143,7 @@ formatted_candidate = record { list = Start 1 ∷ []; map = empty_map; lost = []
 -- a node behind a format: up, with the first epoch, with all its volumes, and with no records
 abbrev pub formatted_node : Node
 formatted_node = record {
-  state = record { up = Some (record { epoch = 1; place = 2; lost = none_lost }); formatted = true; printed = 0 };
+  state = record { up = Some (record { epoch = 1; lost = none_lost }); formatted = true; printed = 0 };
   candidates = Some (formatted_candidate ∷ []);
 }
 
@@ -200,102 +191,72 @@ pub record LeavesLost {D : Type 0} (held : D → Held) (volume : ℕ) (old new :
   pub others : SameBut (volume_device volume) old new
   pub every : (left : ℕ → Held) → AreImages held new left → (images : ℕ → Held) × AreImages held old images × MayLose volume images left
 
-module _ (config : Config) (up : Up) (items : List Item) where
-  -- Of what may stand, one goes on: on its map the items come to these outcomes, and it has them afterwards. Where it is not known what may stand, the outcomes are
-  -- those of first items all the same, and it stays unknown.
-  abbrev pub AllItemsDone : Option (List Candidate) → List Outcome → Option (List Candidate) → Type 0
-  AllItemsDone None done after = AreAdded items up.epoch up.place [] done × (after ≡ None)
-  AllItemsDone (Some standings) done after =
-      (s : Candidate) × OneOf (λ t. t ≡ s) standings × AreOutcomes config up.epoch up.place items s.map done × (after ≡ Some (with_outcomes items up.epoch done s ∷ []))
-
-  -- So one went on up to these outcomes, and afterwards has these alone, or what at most so many items behind them come to as well.
-  abbrev pub FirstItemsDone : ℕ → Option (List Candidate) → List Outcome → Option (List Candidate) → Type 0
-  FirstItemsDone most None done after = AreAdded items up.epoch up.place [] done × (after ≡ None)
-  FirstItemsDone most (Some standings) done after =
-      (s : Candidate) × (next : List Outcome) × OneOf (λ t. t ≡ s) standings × (length next ≤ most) × AreOutcomes config up.epoch up.place items s.map (done ++ next)
-      × (after ≡ Some (with_outcomes items up.epoch done s ∷ with_outcomes items up.epoch (done ++ next) s ∷ []))
-
 -- the device with this number is one of these, and has failed: its count of faults rose
 abbrev pub FailedAmong : {D : Type 0} → (ℕ → Type 0) → (D → ℕ) → List (Fuse D) → List (Fuse D) → ℕ → Type 0
 FailedAmong Among faults old new device = Among device × RoseAt faults old new device
 
 -- the device of a trail or of a volume has failed
 abbrev pub HasFailed : {D : Type 0} → (D → ℕ) → Config → List (Fuse D) → List (Fuse D) → ℕ → Type 0
-HasFailed faults config old new device = FailedAmong (IsOfNode config) faults old new device
+HasFailed faults config old new device = FailedAmong (IsUsed config) faults old new device
 
--- no item was done, and each device holds what it held
-abbrev pub IsUndone : {D : Type 0} → (D → Held) → List (Fuse D) → List (Fuse D) → List Outcome → Type 0
-IsUndone held old new done = (done ≡ []) × HoldSame held old new
+-- no outcome is one behind which its worker carries out no more of its items
+abbrev pub AreSettled : List Outcome → Type 0
+AreSettled outcomes = (outcome : Outcome) → Contains outcomes outcome → is_last outcome.told ≡ false
 
--- By what the trails of these devices spell, and by what its volumes say, a disc is spent, or an item names a file of a lost volume: over them no run of these items begins.
-abbrev pub BarsRuns : Config → (ℕ → Held) → List Item → Type 0
-BarsRuns config held items = (audit : ℕ → List AuditRecord) × (list : List MonitorRecord) × TrailsSpell config held audit list × IsBarred config held items audit
+-- The outcomes of a single run over what stands so: each ends as its item does on the map that those before it leave, and their records are all that have landed.
+pub record AreExact (config : Config) (phase : Phase) (epoch : ℕ) (outcomes : List Outcome) (s : Candidate) (landed offered : List MonitorRecord) : Type 0 where
+  pub ended : HaveEnded config phase epoch (items_of phase) s.list s.map outcomes
+  pub landed_are : landed ≡ records_left outcomes
+  pub none_offered : offered ≡ []
 
--- What is so of a run of these items that ended for this reason. It has met no damage, and no lost volume that it names. Where the device of a volume failed, nothing was done. Where it was refused, nothing was done, and the disc is spent, or the
--- file crowded, by what labels, trails and blocks said before it. A file is crowded only where it is not known what the devices stand for. Want of memory asks for nothing, so the law shuts it out nowhere.
-abbrev pub IsCausedRun : {D : Type 0} → (D → Held) → (D → ℕ) → Config → Option (List Candidate) → List Item → List (Fuse D) → List (Fuse D) → List Outcome → RunError → Type 0
-IsCausedRun held faults config candidates items old new done (DeviceStopped NoMemory) = Unit {0}
-IsCausedRun held faults config candidates items old new done (DeviceStopped (DeviceFailed device)) = HasFailed faults config old new device × (IsVolumeDevice config device → IsUndone held old new done)
-IsCausedRun held faults config candidates items old new done (DeviceStopped (DeviceDamaged device)) = ⊥
-IsCausedRun held faults config candidates items old new done (Spent disc) = IsUndone held old new done × IsRunCause config (held_at held old) items (Spent disc)
-IsCausedRun held faults config candidates items old new done (Crowded file) = (candidates ≡ None) × IsUndone held old new done × IsRunCause config (held_at held old) items (Crowded file)
-IsCausedRun held faults config candidates items old new done (Lost volume) = ⊥
-
--- A run is whole: the node was up, and each volume that an item names; nothing barred it; it prints what all its items have come to, and takes the node down.
-pub record RunsWhole {D : Type 0} (held : D → Held) (config : Config) (phase : Phase) (node : Node) (old : List (Fuse D)) (lines : List Line) (after : Node) : Type 0 where
-  pub up : Up
-  pub was_up : up_for config phase node.state ≡ Some up
-  pub done : List Outcome
-  pub all : length done ≡ length (items_of phase)
-  pub begun : MayRun config (held_at held old) (items_of phase)
-  pub unbarred : ¬ BarsRuns config (held_at held old) (items_of phase)
-  pub stands : AllItemsDone config up (items_of phase) node.candidates done after.candidates
-  pub printed : lines ≡ outcome_lines config done
-  pub state : after.state ≡ down node.state
-
--- A run was stopped for this reason: it has the lines of what its first items have come to, and takes the node down. An item is in flight only where the device of the monitor trail has failed. Where something
--- barred it, nothing was done, whatever the reason.
-pub record RunsPart {D : Type 0} (held : D → Held) (faults : D → ℕ) (config : Config) (phase : Phase) (node : Node) (old : List (Fuse D)) (lines : List Line) (after : Node) (new : List (Fuse D)) (why : RunError) : Type 0 where
-  pub up : Up
-  pub was_up : up_for config phase node.state ≡ Some up
-  pub done : List Outcome
-  pub caused : IsCausedRun held faults config node.candidates (items_of phase) old new done why
-  pub barred : BarsRuns config (held_at held old) (items_of phase) → IsUndone held old new done
-  pub stands : FirstItemsDone config up (items_of phase) (run_in_flight why) node.candidates done after.candidates
-  pub printed : lines ≡ outcome_lines config done
-  pub state : after.state ≡ down node.state
-
--- Of what may stand before a run on threads this goes on: with the records that have landed, or with those that were offered too. Each record is of an outcome, and each transaction that is told
--- as committed has its own at its place, and has read what stood there.
-pub record GoesOn (phase : Phase) (epoch : ℕ) (outcomes : List RunOutcome) (s : Candidate) (after : Option (List Candidate)) : Type 0 where
+-- Of what may stand before a run this goes on: with the records that have landed, or with those that were offered too. Each record is of an outcome, and each transaction that is told
+-- as committed has its own at its place, and has read what stood there. Those of one worker stand in the order of its attempts. The outcomes of a single run are exact, where none of them ends its worker.
+pub record GoesOn (config : Config) (phase : Phase) (epoch : ℕ) (outcomes : List Outcome) (s : Candidate) (after : Option (List Candidate)) : Type 0 where
   pub landed : List MonitorRecord
   pub offered : List MonitorRecord
   pub records : (item : MonitorRecord) → Contains (landed ++ offered) item → IsRecordOf outcomes item
-  pub committed : (outcome : RunOutcome) (place : ℕ) (reads : List (ℕ × Option (List ℕ))) → Contains outcomes outcome → outcome.told ≡ ToldCommitted place reads
+  pub committed : (outcome : Outcome) (place : ℕ) (reads : List (ℕ × Option (List ℕ))) → Contains outcomes outcome → outcome.told ≡ ToldCommitted place reads
       → HasCommitted phase epoch s.list s.map landed outcome.tx place reads
+  pub row : AreInRow (landed ++ offered)
+  pub exact : IsSingle phase → AreSettled outcomes → AreExact config phase epoch outcomes s landed offered
   pub candidates : after ≡ Some (with_records phase epoch landed s ∷ with_records phase epoch (landed ++ offered) s ∷ [])
 
 -- So one of them goes on, where it is known what may stand: the one with which the devices, as the run has opened them, are those of a node that is up, with nothing at risk.
-abbrev pub OneGoesOn : Config → Phase → ℕ → (ℕ → Held) → List RunOutcome → Option (List Candidate) → Option (List Candidate) → Type 0
+abbrev pub OneGoesOn : Config → Phase → ℕ → (ℕ → Held) → List Outcome → Option (List Candidate) → Option (List Candidate) → Type 0
 OneGoesOn config phase epoch held outcomes None after = after ≡ None
 OneGoesOn config phase epoch held outcomes (Some standings) after =
-    (s : Candidate) × OneOf (λ t. t ≡ s) standings × IsNodeUp config held s.list s.map epoch × GoesOn phase epoch outcomes s after
+    (s : Candidate) × OneOf (λ t. t ≡ s) standings × IsNodeUp config held s.list s.map epoch × GoesOn config phase epoch outcomes s after
 
--- A run on threads is whole: the node was up, and each volume that an item names was there; no device was unfit; its outcomes are those of one history, which shows what is left of the devices; it prints them, and takes the
+-- whatever a crash leaves of the device of any volume's dumps, there is no dump
+abbrev pub HaveNoDumps : {D : Type 0} → (D → Held) → Config → List (Fuse D) → Type 0
+HaveNoDumps held config devices = (volume : ℕ) → IsDeclared config.volumes volume → IsSurelyLost (held_at held devices (dump_device volume))
+
+-- no file of a dump is on any of them
+abbrev pub AreCleared : {D : Type 0} → (D → Held) → Config → List (Fuse D) → Type 0
+AreCleared held config devices = (volume : ℕ) → IsDeclared config.volumes volume → IsCleared (held_at held devices (dump_device volume))
+
+-- where there was no dump, there is none
+abbrev pub MakesNoDump : {D : Type 0} → (D → Held) → Config → List (Fuse D) → List (Fuse D) → Type 0
+MakesNoDump held config old new = HaveNoDumps held config old → HaveNoDumps held config new
+
+-- A run is whole: the node was up, and each volume that an item names was there; no device was unfit; its outcomes are those of one history, which shows what is left of the devices; it prints them, and takes the
 -- node down. The countdown may have been switched on before it, and off behind it.
-pub record RunsOnThreads {D : Type 0} (held : D → Held) (faults : D → ℕ) (config : Config) (phase : Phase) (node : Node) (old : List (Fuse D)) (lines : List Line) (after : Node) (new : List (Fuse D)) : Type 0 where
+pub record RunsWhole {D : Type 0} (held : D → Held) (faults : D → ℕ) (config : Config) (phase : Phase) (node : Node) (old : List (Fuse D)) (lines : List Line) (after : Node) (new : List (Fuse D)) : Type 0 where
   pub up : Up
   pub was_up : up_for config phase node.state ≡ Some up
   pub opened : List (Fuse D)
   pub closed : List (Fuse D)
   pub on : Switches old opened
   pub off : Switches closed new
-  pub outcomes : List RunOutcome
-  pub ran : HasRunOnThreads (fuse_kind (telling held faults)) config phase up.epoch opened closed outcomes
+  pub all : (length opened ≡ devices) × (length closed ≡ devices)
+  pub outcomes : List Outcome
+  pub ran : HasRun (fuse_kind (telling held faults)) config phase up.epoch opened closed outcomes
   pub present : (volume : ℕ) → Among (volumes_named config phase) volume → IsPresent config (held_at held opened) volume
   pub fit : (device : ℕ) (damage : DamageAt) → IsUnfit (fuse_kind (telling held faults)) config phase up.epoch opened device damage → ⊥
   -- that these records are those of the history follows from the images, which both allow
   pub stands : OneGoesOn config phase up.epoch (held_at held opened) outcomes node.candidates after.candidates
+  -- transactions alone make no dump
+  pub dumps : AllTransactions phase → node.candidates ≢ None → MakesNoDump held config old new
   pub printed : lines ≡ run_lines config outcomes
   pub state : after.state ≡ down node.state
 
@@ -315,7 +276,7 @@ IsUnrunFor faults candidates old new phase_error.NoMemory = ⊥
 abbrev pub down_node : Node → Node
 down_node node = record { state = down node.state; candidates = node.candidates }
 
--- No worker of a run on threads has begun: it tells which device has failed or is damaged, every device holds what it held, and the node is down.
+-- No worker of a run has begun: it tells which device has failed or is damaged, every device holds what it held, and the node is down.
 pub record RunsNot {D : Type 0} (held : D → Held) (faults : D → ℕ) (config : Config) (phase : Phase) (node : Node) (old : List (Fuse D)) (lines : List Line) (after : Node) (new : List (Fuse D)) : Type 0 where
   pub up : Up
   pub was_up : up_for config phase node.state ≡ Some up
@@ -332,18 +293,10 @@ pub record RunsNot {D : Type 0} (held : D → Held) (faults : D → ℕ) (config
   pub printed : lines ≡ line ∷ []
   pub left : after ≡ down_node node
 
--- Memory lacked in a run on threads: no worker has begun, and every device holds what it held; or it is whole, and its lines were not made.
-abbrev pub BreaksOnThreads : {D : Type 0} → (D → Held) → (D → ℕ) → Config → Phase → Node → List (Fuse D) → List Line → Node → List (Fuse D) → Type 0
-BreaksOnThreads held faults config phase node old lines after new =
-    ((up_for config phase node.state ≢ None) × (lines ≡ []) × (after ≡ down_node node) × HoldSame held old new) ⊎ RunsOnThreads held faults config phase node old lines after new
-
--- no file of a dump is on the device of any volume's dumps
-abbrev pub HaveNoDumps : {D : Type 0} → (D → Held) → Config → List (Fuse D) → Type 0
-HaveNoDumps held config devices = (volume : ℕ) → IsDeclared config.volumes volume → IsCleared (held_at held devices (dump_device volume))
-
--- where there was no dump, there is none
-abbrev pub MakesNoDump : {D : Type 0} → (D → Held) → Config → List (Fuse D) → List (Fuse D) → Type 0
-MakesNoDump held config old new = HaveNoDumps held config old → HaveNoDumps held config new
+-- Memory lacked in a run: no worker has begun, and every device holds what it held; or it is whole, and its lines were not made.
+abbrev pub BreaksRun : {D : Type 0} → (D → Held) → (D → ℕ) → Config → Phase → Node → List (Fuse D) → List Line → Node → List (Fuse D) → Type 0
+BreaksRun held faults config phase node old lines after new =
+    ((up_for config phase node.state ≢ None) × (lines ≡ []) × (after ≡ down_node node) × HoldSame held old new) ⊎ RunsWhole held faults config phase node old lines after new
 
 -- what a recovery answers of images whose monitor trail spells this list
 abbrev pub answer_of : Config → (ℕ → Held) → List MonitorRecord → Recovered
@@ -361,7 +314,7 @@ pub record RecoversWhole {D : Type 0} (held : D → Held) (config : Config) (nod
   pub printed : lines ≡ recovered_lines config node.state.printed list (lost_among images (length config.volumes)) (next_epoch list)
   pub stands : OneIsLeft node.candidates list (lost_among images (length config.volumes)) after.candidates
   pub state : after.state ≡ record {
-    up = Some (record { epoch = next_epoch list; place = length list + 2; lost = lost_flags (lost_among images (length config.volumes)) });
+    up = Some (record { epoch = next_epoch list; lost = lost_flags (lost_among images (length config.volumes)) });
     formatted = true;
     printed = max node.state.printed (length list);
   }
@@ -448,7 +401,7 @@ module _ {D : Type 0} (held : D → Held) (faults : D → ℕ) (config : Config)
 
   abbrev pub Formats : Node → List (Fuse D) → List Line → Node → List (Fuse D) → Type 0
   Formats node old lines after new =
-      ((lines ≡ Formatted ∷ []) × (after ≡ formatted_node) × HaveNoDumps held config new)
+      ((lines ≡ Formatted ∷ []) × (after ≡ formatted_node) × AreCleared held config new)
       ⊎ (IsFailed (IsNodeDevice config) old new (format_failure config) lines × (after ≡ unformatted_node node))
 
   abbrev pub Recovers : Node → List (Fuse D) → List Line → Node → List (Fuse D) → Type 0
@@ -460,8 +413,8 @@ module _ {D : Type 0} (held : D → Held) (faults : D → ℕ) (config : Config)
   abbrev pub Runs : Phase → Node → List (Fuse D) → List Line → Node → List (Fuse D) → Type 0
   Runs phase node old lines after new =
       ((up_for config phase node.state ≡ None) × (lines ≡ NotUp asked.Run ∷ []) × (after ≡ node) × (new ≡ old))
-      ⊎ (IsSingle config phase × RunsWhole held config phase node old lines after × MakesNoDump held config old new)
-      ⊎ ((¬ IsSingle config phase) × (RunsOnThreads held faults config phase node old lines after new ⊎ RunsNot held faults config phase node old lines after new))
+      ⊎ RunsWhole held faults config phase node old lines after new
+      ⊎ RunsNot held faults config phase node old lines after new
 
   -- A volume is lost, also of a node that is down: its device has no file. Or the device has failed in the action.
   abbrev pub Loses : ℕ → Node → List (Fuse D) → List Line → Node → List (Fuse D) → Type 0
@@ -505,14 +458,11 @@ module _ {D : Type 0} (held : D → Held) (faults : D → ℕ) (config : Config)
       (first more : List Line) × (middle : Node) × (between : List (Fuse D))
       × Does action node old first middle between × MayStand held config between middle.candidates × KeepsCounts faults (kill_of action ≡ None) old between × ToldBy rest middle between more after new × (lines ≡ first ++ more)
 
-  -- The script ended in this action, for want of memory, or in a run for the reason of that run. It has these lines to print, and left the node so.
-  abbrev pub Breaks : RunError → Action → Node → List (Fuse D) → List Line → Node → List (Fuse D) → Type 0
-  Breaks why Format node old lines after new = (why ≡ DeviceStopped NoMemory) × (lines ≡ []) × (after ≡ unformatted_node node)
-  Breaks why (Recover kill) node old lines after new = (why ≡ DeviceStopped NoMemory) × (lines ≡ []) × (after ≡ stopped_node node)
-  Breaks why (Run phase) node old lines after new =
-      ((why ≡ DeviceStopped NoMemory) × (up_for config phase node.state ≡ None) × (lines ≡ []) × (after ≡ node))
-      ⊎ (IsSingle config phase × RunsPart held faults config phase node old lines after new why)
-      ⊎ ((¬ IsSingle config phase) × (why ≡ DeviceStopped NoMemory) × BreaksOnThreads held faults config phase node old lines after new)
-  Breaks why (Lose volume) node old lines after new = (why ≡ DeviceStopped NoMemory) × (lines ≡ []) × (after ≡ node) × (new ≡ old)
-  Breaks why (Rollforward volume kill) node old lines after new = (why ≡ DeviceStopped NoMemory) × (lines ≡ []) × (after ≡ node) × HoldSame held old new
-  Breaks why (ListFile file) node old lines after new = (why ≡ DeviceStopped NoMemory) × (lines ≡ []) × (after ≡ node)
+  -- The script ended in this action, for want of memory. It had these lines to print, and left the node so.
+  abbrev pub Breaks : Action → Node → List (Fuse D) → List Line → Node → List (Fuse D) → Type 0
+  Breaks Format node old lines after new = (lines ≡ []) × (after ≡ unformatted_node node)
+  Breaks (Recover kill) node old lines after new = (lines ≡ []) × (after ≡ stopped_node node)
+  Breaks (Run phase) node old lines after new = ((up_for config phase node.state ≡ None) × (lines ≡ []) × (after ≡ node)) ⊎ BreaksRun held faults config phase node old lines after new
+  Breaks (Lose volume) node old lines after new = (lines ≡ []) × (after ≡ node) × (new ≡ old)
+  Breaks (Rollforward volume kill) node old lines after new = (lines ≡ []) × (after ≡ node) × HoldSame held old new
+  Breaks (ListFile file) node old lines after new = (lines ≡ []) × (after ≡ node)

@@ -1,5 +1,5 @@
--- The lines of what the attempts of a run on threads have come to.
-use Rattle.std.specs.Prelude.{List, [], ◌∷◌, flat_map}
+-- The lines of what the attempts of a run have come to.
+use Rattle.std.specs.Prelude.{ℕ, List, [], ◌∷◌, flat_map, map, Option, Some, None}
 use Rattle.run_outcomes.specs.declared.outcome.Hang.{Hang}
 use Rattle.run_outcomes.specs.declared.outcome.Hang.TheVariants as hang
 use Rattle.run_outcomes.specs.declared.outcome.Outcome.{Outcome}
@@ -7,10 +7,18 @@ use Rattle.run_outcomes.specs.declared.outcome.Told.{Told}
 use Rattle.run_outcomes.specs.declared.outcome.Told.TheVariants as told
 use Rattle.tmf_lines.specs.Report.{file_name_of, node_device_name, part_name, spent_line, volume_name}
 use Rattle.tmf_lines.specs.declared.line.Line.{Line}
-use Rattle.tmf_lines.specs.declared.line.Line.TheVariants.{Aborted, AttemptDamaged, AttemptFailed, Busy, Committed, Controlled, Dumped, Dumping, Full, Hanging, HangingDamaged, HangingMemory, InDoubt, Memory, Refused, Skipped}
+use Rattle.tmf_lines.specs.declared.line.Line.TheVariants.{Aborted, AttemptDamaged, AttemptFailed, Busy, Committed, Controlled, Dumped, Dumping, Full, Hanging, HangingDamaged, HangingMemory, InDoubt, Memory, Read, ReadAbsent, Refused, Skipped}
 use Rattle.tmf_model.specs.declared.config.Config.{Config}
 use Rattle.tmf_model.specs.declared.transid.Transid.{Transid}
-use Rattle.tmf_cli.specs.Outcomes.{read_lines}
+
+-- the line of what a read of a transaction, by the number of its operation, has found
+abbrev pub read_line : Transid → ℕ → Option (List ℕ) → Line
+read_line tx op None = ReadAbsent tx op
+read_line tx op (Some value) = Read tx op value
+
+-- the lines of its reads
+abbrev pub read_lines : Transid → List (ℕ × Option (List ℕ)) → List Line
+read_lines tx reads = map (λ read. read_line tx read.0 read.1) reads
 
 -- the line of an attempt that was not backed out
 abbrev pub hang_line : Config → Transid → Hang → Line

@@ -1,4 +1,4 @@
--- What a run on threads makes of the devices of a bay, whether the countdown cuts it off or not.
+-- What a run makes of the devices of a bay, whether the countdown cuts it off or not.
 use Rattle.std.specs.Prelude.{◌≡◌, ℕ, List, length, Result, MatchResult}
 use Rattle.disk_model.specs.Devices.{NoneFalls}
 use Rattle.disk_model.specs.declared.disk.Disk as disk

@@ -3,22 +3,16 @@ use Rattle.std.specs.Prelude.{◌≡◌, ◌⊎◌, ℕ, List, [], ◌∷◌, �
 use Rattle.disk_model.specs.Held.{Held, Rose}
 use Rattle.disk_model.specs.declared.fuse.Fuse.{Fuse}
 use Rattle.tmf_lines.specs.declared.line.Line.{Line}
-use Rattle.tmf_lines.specs.declared.line.Line.TheVariants.{NotScript, Stopped}
-use Rattle.tmf_lines.specs.declared.line.DeviceTrouble.{DeviceTrouble}
-use Rattle.tmf_lines.specs.declared.line.DeviceTrouble.TheVariants.{Failed, Damaged}
+use Rattle.tmf_lines.specs.declared.line.Line.TheVariants.{NotScript}
 use Rattle.tmf_cli.specs.declared.status.Status.{Status}
 use Rattle.tmf_cli.specs.declared.status.Status.TheVariants as status
-use Rattle.trail_replay.specs.declared.stop.Stop.{Stop}
-use Rattle.trail_replay.specs.declared.stop.Stop.TheVariants as stop
-use Rattle.tmf_model.specs.declared.config.Config.{Config}
 use Rattle.tmf_model.specs.declared.script.Script.{Script}
 use Rattle.tmf_script.specs.declared.fault.Why.{Why}
 use Rattle.tmf_script.specs.Reading.{IsRefused}
 use Rattle.tmf_lines.specs.Line.{lines_text}
 use Rattle.tmf_lines.specs.Script.{IsScriptOf}
-use Rattle.tmf_lines.specs.Report.{device_name}
 use Rattle.tmf_cli.specs.Status.{code_of}
-use Rattle.tmf_cli.specs.Ending.{EndsWhole, EndsAtSink, EndsForMemory, EndsAtDevice, EndsUntouched, opening}
+use Rattle.tmf_cli.specs.Ending.{EndsWhole, EndsAtSink, EndsForMemory, EndsUntouched, opening}
 use Rattle.tmf_cli.specs.OutputLaw.{Candidate, MayStand}
 use Rattle.tmf_edges.specs.Moves.{AppendsPart}
 
@@ -58,25 +52,10 @@ Tells held faults script candidates status.NoMemory old new sink before after =
 Tells held faults script candidates status.SourceFailed old new sink before after = EndsUntouched old new sink before after
 Tells held faults script candidates status.SinkFailed old new sink before after = EndsAtSink held faults script.config (opening candidates) script.actions old new sink before after
 Tells held faults script candidates status.Refused old new sink before after = ⊥
-Tells held faults script candidates status.Stopped old new sink before after = EndsAtDevice held faults script.config (opening candidates) script.actions old new sink before after
 
 -- the same by the status's number
 abbrev pub TellsBy : {D : Type 0} → (D → Held) → (D → ℕ) → Script → Option (List Candidate) → ℕ → List (Fuse D) → List (Fuse D) → Type 0 → List ℕ → List ℕ → Type 0
 TellsBy held faults script candidates code old new sink before after = (how : Status) × (code_of how ≡ code) × Tells held faults script candidates how old new sink before after
-
--- The sink was given some lines whole, and then one that ends them: that of a device that has failed, or whose bytes are damaged.
-pub record EndsStopped (config : Config) (failed : ℕ → Type 0) (before after : List ℕ) : Type 0 where
-  pub lines : List Line
-  pub device : ℕ
-  pub trouble : DeviceTrouble
-  pub cause : trouble ≡ Failed → failed device
-  pub given : after ≡ before ++ lines_text (lines ++ Stopped (device_name config device) trouble ∷ [])
-
--- the line of a stop; want of memory has none
-abbrev pub stop_lines : Config → Stop → List Line
-stop_lines config stop.NoMemory = []
-stop_lines config (stop.Failed device) = Stopped (device_name config device) Failed ∷ []
-stop_lines config (stop.Damaged device) = Stopped (device_name config device) Damaged ∷ []
 
 -- of the actions' statuses, what holds of the count of the sink
 abbrev pub IsStatusCaused : Status → ℕ → ℕ → Type 0
@@ -86,7 +65,6 @@ IsStatusCaused status.NoMemory sink sink_now = Unit {0}
 IsStatusCaused status.SourceFailed sink sink_now = ⊥
 IsStatusCaused status.SinkFailed sink sink_now = Rose sink sink_now
 IsStatusCaused status.Refused sink sink_now = ⊥
-IsStatusCaused status.Stopped sink sink_now = Unit {0}
 
 -- why no script was read: of the text that was read some line is the first that makes it none, or the source failed
 abbrev pub IsUnreadCaused : Status → ℕ → ℕ → Type 0
@@ -96,11 +74,10 @@ IsUnreadCaused status.NoMemory source source_now = Unit {0}
 IsUnreadCaused status.SourceFailed source source_now = Rose source source_now
 IsUnreadCaused status.SinkFailed source source_now = ⊥
 IsUnreadCaused status.Refused source source_now = Unit {0}
-IsUnreadCaused status.Stopped source source_now = ⊥
 
 -- the statuses that come of carrying a script out
 abbrev pub IsPlayed : ℕ → Type 0
-IsPlayed code = (code ≡ 0) ⊎ (code ≡ 4) ⊎ (code ≡ 6)
+IsPlayed code = (code ≡ 0) ⊎ (code ≡ 4)
 
 -- those that come only where the script was read
 abbrev pub IsRead : ℕ → Type 0

@@ -1,24 +1,22 @@
 //! The actions of a script: what each does to the node, and the lines that it has to print.
-ghost use Rattle.std.specs.Prelude.{◌≡◌, ℕ, [], List, Option, None, Err, IfErr, IfOk, OnOk, MatchResult};
+ghost use Rattle.std.specs.Prelude.{◌≡◌, List, Option, None, IfErr, IfOk, OnOk, MatchResult};
 ghost use Rattle.tmf_model.specs.Config.{IsDeclared, IsValidConfig};
 ghost use Rattle.tmf_model.specs.declared.script.Action.TheVariants.{Format, Recover as RecoverAction, Run as RunAction, Lose as LoseAction, List as ListAction};
 ghost use Rattle.tmf_model.specs.Script.{IsValidAction, IsValidPhase};
-ghost use Rattle.tmf_cli.specs.AnyDevices.{Halts, HaltsRun, Prints};
+ghost use Rattle.tmf_cli.specs.AnyDevices.{Prints};
 ghost use Rattle.tmf_cli.specs.BetweenActions.{HasDone, HasBroken, IsBounded, IsListLine, Knows, LeavesBay, SameOthers, node_of};
-ghost use Rattle.tmf_cli.specs.OutputLaw.{HasFailed, Candidate, IsRecoveryLine};
+ghost use Rattle.tmf_cli.specs.OutputLaw.{Candidate, IsRecoveryLine};
 ghost use Rattle.disk_model.specs.Devices.{AreLater, DevicesTell};
 ghost use Rattle.tmf_cli.specs.Countdown.{IsOff, kill_of};
 
 use crate::countdown::recover_within;
-use crate::made::{keep_lines, one_line};
+use crate::made::one_line;
 use crate::means::Means;
 use crate::node::NodeState;
 use crate::rolling::act_rollforward;
-use crate::single::{act_single, is_single};
 use crate::threads::act_threads;
 use disk_model::{Bay, Disk};
-use one_worker::Stop;
-use std::alloc::Global;
+use std::alloc::{AllocError, Global};
 use std::sync::Wait;
 use std::thread::Threads;
 use tmf_lines::{
@@ -37,16 +35,15 @@ fn act_format<D: Disk>(
     config: &Config,
     state: &mut NodeState,
     bay: &mut Bay<D>,
-) -> Result<Vec<Line>, Stop>
+) -> Result<Vec<Line>, AllocError>
     requires valid { IsValidConfig config.now }
     ensures done { (candidates : Option (List Candidate)) → DevicesTell D.tells bay.old
         → IfOk result (λ lines. HasDone D.held D.faults config.now Format (node_of state.old candidates) bay.old lines.items state.new bay.new) }
-    ensures broken { (candidates : Option (List Candidate)) → IfErr result (λ stop. HasBroken D.held D.faults config.now Format (node_of state.old candidates) bay.old [] stop bay.new) }
+    ensures broken { (candidates : Option (List Candidate)) → IfErr result (λ _. HasBroken D.held D.faults config.now Format (node_of state.old candidates) bay.old bay.new) }
     ensures prints { IfOk result (λ lines. Prints D.Disk config.now Format state.old bay.old lines.items state.new bay.new) }
     ensures small { OnOk result (IsBounded state.new.up) }
     ensures keeps { AreLater D.Disk bay.old bay.new }
     ensures others { SameOthers config.now bay.old bay.new }
-    ensures memory { IfErr result (λ stop. stop ≡ Stop.NoMemory) }
 {
     Trail::<D, AuditRecord>::one_spelling();
     spelled_volume_law();
@@ -59,7 +56,7 @@ fn act_format<D: Disk>(
             *state = state.unformatted();
             one_line(alloc, format_failure(config, device))
         }
-        Err(FormatError::NoMemory) => Err(Stop::NoMemory),
+        Err(FormatError::NoMemory) => Err(AllocError),
     }
 }
 
@@ -70,18 +67,17 @@ fn act_recover<D: Disk>(
     state: &mut NodeState,
     bay: &mut Bay<D>,
     kill: Option<u64>,
-) -> Result<Vec<Line>, Stop>
+) -> Result<Vec<Line>, AllocError>
     requires valid { IsValidConfig config.now }
     requires small { IsBounded state.old.up }
     requires off { IsOff bay.old }
     ensures done { (candidates : Option (List Candidate)) → DevicesTell D.tells bay.old → Knows D.held config.now (node_of state.old candidates) bay.old
         → IfOk result (λ lines. HasDone D.held D.faults config.now (RecoverAction kill) (node_of state.old candidates) bay.old lines.items state.new bay.new) }
     ensures broken { (candidates : Option (List Candidate)) → DevicesTell D.tells bay.old → Knows D.held config.now (node_of state.old candidates) bay.old
-        → IfErr result (λ stop. HasBroken D.held D.faults config.now (RecoverAction kill) (node_of state.old candidates) bay.old [] stop bay.new) }
+        → IfErr result (λ _. HasBroken D.held D.faults config.now (RecoverAction kill) (node_of state.old candidates) bay.old bay.new) }
     ensures prints { IfOk result (λ lines. Prints D.Disk config.now (RecoverAction kill) state.old bay.old lines.items state.new bay.new) }
     ensures small { OnOk result (IsBounded state.new.up) }
     ensures keeps { LeavesBay D.Disk config.now (kill ≡ None) bay.old bay.new }
-    ensures memory { IfErr result (λ stop. stop ≡ Stop.NoMemory) }
 {
     Trail::<D, AuditRecord>::one_spelling();
     Trail::<D, MonitorRecord>::one_spelling();
@@ -113,18 +109,17 @@ fn act_lose<D: Disk>(
     state: &mut NodeState,
     bay: &mut Bay<D>,
     volume: u8,
-) -> Result<Vec<Line>, Stop>
+) -> Result<Vec<Line>, AllocError>
     requires valid { IsValidConfig config.now }
     requires declared { IsDeclared config.now.volumes volume }
     ensures done { (candidates : Option (List Candidate)) → DevicesTell D.tells bay.old → Knows D.held config.now (node_of state.old candidates) bay.old
         → IfOk result (λ lines. HasDone D.held D.faults config.now (LoseAction volume) (node_of state.old candidates) bay.old lines.items state.new bay.new) }
     ensures broken { (candidates : Option (List Candidate)) → DevicesTell D.tells bay.old → Knows D.held config.now (node_of state.old candidates) bay.old
-        → IfErr result (λ stop. HasBroken D.held D.faults config.now (LoseAction volume) (node_of state.old candidates) bay.old [] stop bay.new) }
+        → IfErr result (λ _. HasBroken D.held D.faults config.now (LoseAction volume) (node_of state.old candidates) bay.old bay.new) }
     ensures prints { IfOk result (λ lines. Prints D.Disk config.now (LoseAction volume) state.old bay.old lines.items state.new bay.new) }
     ensures small { OnOk result (IsBounded state.new.up) }
     ensures keeps { AreLater D.Disk bay.old bay.new }
     ensures others { SameOthers config.now bay.old bay.new }
-    ensures memory { IfErr result (λ stop. stop ≡ Stop.NoMemory) }
 {
     lost_law();
     let name = volume_name(config, volume);
@@ -144,17 +139,16 @@ fn act_list<D: Disk>(
     state: NodeState,
     bay: &mut Bay<D>,
     file: u8,
-) -> Result<Vec<Line>, Stop>
+) -> Result<Vec<Line>, AllocError>
     requires valid { IsValidConfig config.now }
     requires declared { IsDeclared config.now.files file }
     ensures done { (candidates : Option (List Candidate)) → DevicesTell D.tells bay.old → Knows D.held config.now (node_of state candidates) bay.old
         → IfOk result (λ lines. HasDone D.held D.faults config.now (ListAction file) (node_of state candidates) bay.old lines.items state bay.new) }
     ensures broken { (candidates : Option (List Candidate)) → DevicesTell D.tells bay.old → Knows D.held config.now (node_of state candidates) bay.old
-        → IfErr result (λ stop. HasBroken D.held D.faults config.now (ListAction file) (node_of state candidates) bay.old [] stop bay.new) }
+        → IfErr result (λ _. HasBroken D.held D.faults config.now (ListAction file) (node_of state candidates) bay.old bay.new) }
     ensures prints { IfOk result (λ lines. Prints D.Disk config.now (ListAction file) state bay.old lines.items state bay.new) }
     ensures keeps { AreLater D.Disk bay.old bay.new }
     ensures others { SameOthers config.now bay.old bay.new }
-    ensures memory { IfErr result (λ stop. stop ≡ Stop.NoMemory) }
 {
     let name = file_name(config, file);
     if state.up_with(config, file).is_none() {
@@ -170,8 +164,8 @@ fn act_list<D: Disk>(
 }
 
 /// The line of a recovery that was refused, if it was not for want of memory.
-fn recovery_line(config: &Config, error: RecoverError) -> Result<Line, Stop>
-    ensures { MatchResult result (IsRecoveryLine config.now error) (λ stop. (stop ≡ Stop.NoMemory) × (error ≡ RecoverError.NoMemory)) }
+fn recovery_line(config: &Config, error: RecoverError) -> Result<Line, AllocError>
+    ensures { MatchResult result (IsRecoveryLine config.now error) (λ _. error ≡ RecoverError.NoMemory) }
 {
     match error {
         RecoverError::Failed(device) => Ok(Line::Failed(
@@ -184,13 +178,13 @@ fn recovery_line(config: &Config, error: RecoverError) -> Result<Line, Stop>
             damage,
         )),
         RecoverError::EpochsSpent => Ok(Line::EpochsSpent),
-        RecoverError::NoMemory => Err(Stop::NoMemory),
+        RecoverError::NoMemory => Err(AllocError),
     }
 }
 
 /// The line of a listing that was refused, if it was not for want of memory. Only a device that does not tell what it holds has a lost volume of which the node does not know.
-fn list_line(config: &Config, file: u8, error: ListError) -> Result<Line, Stop>
-    ensures { MatchResult result (IsListLine config.now file error) (λ stop. (stop ≡ Stop.NoMemory) × (error ≡ ListError.NoMemory)) }
+fn list_line(config: &Config, file: u8, error: ListError) -> Result<Line, AllocError>
+    ensures { MatchResult result (IsListLine config.now file error) (λ _. error ≡ ListError.NoMemory) }
 {
     let name = file_name(config, file);
     match error {
@@ -199,43 +193,35 @@ fn list_line(config: &Config, file: u8, error: ListError) -> Result<Line, Stop>
             Ok(Line::ListDamaged(name, device_name(config, device), damage))
         }
         ListError::Lost => Ok(Line::ListNotUp(name)),
-        ListError::NoMemory => Err(Stop::NoMemory),
+        ListError::NoMemory => Err(AllocError),
     }
 }
 
-/// Runs the workers, where the node is up, and each volume that an item names: a single worker's transactions one after the other, any other run on threads.
+/// Runs the workers, where the node is up, and each volume that an item names.
 fn act_run<R: Threads + Wait + Sync, D: Disk + Send>(
     means: Means<'_, R>,
     config: &Config,
     state: &mut NodeState,
     bay: Bay<D>,
     phase: &Phase,
-    lines: &mut Vec<Line>,
-) -> (Result<(), Stop>, Bay<D>)
+) -> (Result<Vec<Line>, AllocError>, Bay<D>)
     requires valid { IsValidConfig config.now }
     requires phase { IsValidPhase config.now phase.now }
-    requires none { lines.old.items ≡ [] }
     requires small { IsBounded state.old.up }
     requires off { IsOff bay }
     ensures done { (candidates : Option (List Candidate)) → DevicesTell D.tells bay → Knows D.held config.now (node_of state.old candidates) bay
-        → OnOk result.0 (HasDone D.held D.faults config.now (RunAction phase.now) (node_of state.old candidates) bay lines.new.items state.new result.1) }
+        → IfOk result.0 (λ lines. HasDone D.held D.faults config.now (RunAction phase.now) (node_of state.old candidates) bay lines.items state.new result.1) }
     ensures broken { (candidates : Option (List Candidate)) → DevicesTell D.tells bay → Knows D.held config.now (node_of state.old candidates) bay
-        → IfErr result.0 (λ stop. HasBroken D.held D.faults config.now (RunAction phase.now) (node_of state.old candidates) bay lines.new.items stop result.1) }
-    ensures prints { MatchResult result.0 (λ _. Prints D.Disk config.now (RunAction phase.now) state.old bay lines.new.items state.new result.1) (λ why. HaltsRun D.Disk config.now why phase.now state.old bay lines.new.items result.1) }
+        → IfErr result.0 (λ _. HasBroken D.held D.faults config.now (RunAction phase.now) (node_of state.old candidates) bay result.1) }
+    ensures prints { IfOk result.0 (λ lines. Prints D.Disk config.now (RunAction phase.now) state.old bay lines.items state.new result.1) }
     ensures small { IsBounded state.new.up }
     ensures keeps { LeavesBay D.Disk config.now (phase.now.kill ≡ None) bay result.1 }
-    ensures cause { (device : ℕ) → result.0 ≡ Err (Stop.Failed device) → HasFailed D.faults config.now bay result.1 device }
 {
     let Some(up) = state.up_for(config, phase) else {
-        let ran = keep_lines(lines, one_line(means.alloc, Line::NotUp(ActionKind::Run)));
-        return (ran, bay);
+        return (one_line(means.alloc, Line::NotUp(ActionKind::Run)), bay);
     };
     *state = state.down();
-    if is_single(config, phase) {
-        return act_single(means.alloc, config, up, bay, phase, lines);
-    }
-    let (made, bay) = act_threads(means, config, up, bay, phase);
-    (keep_lines(lines, made), bay)
+    act_threads(means, config, up, bay, phase)
 }
 
 /// Carries out one action, and answers the lines that it has to print.
@@ -245,45 +231,42 @@ pub fn act<R: Threads + Wait + Sync, D: Disk + Send>(
     state: &mut NodeState,
     action: &Action,
     bay: Bay<D>,
-    lines: &mut Vec<Line>,
-) -> (Result<(), Stop>, Bay<D>)
+) -> (Result<Vec<Line>, AllocError>, Bay<D>)
     requires valid { IsValidConfig config.now }
     requires action { IsValidAction config.now action.now }
-    requires none { lines.old.items ≡ [] }
     requires small { IsBounded state.old.up }
     requires off { IsOff bay }
     ensures done { (candidates : Option (List Candidate)) → DevicesTell D.tells bay → Knows D.held config.now (node_of state.old candidates) bay
-        → OnOk result.0 (HasDone D.held D.faults config.now action.now (node_of state.old candidates) bay lines.new.items state.new result.1) }
+        → IfOk result.0 (λ lines. HasDone D.held D.faults config.now action.now (node_of state.old candidates) bay lines.items state.new result.1) }
     ensures broken { (candidates : Option (List Candidate)) → DevicesTell D.tells bay → Knows D.held config.now (node_of state.old candidates) bay
-        → IfErr result.0 (λ stop. HasBroken D.held D.faults config.now action.now (node_of state.old candidates) bay lines.new.items stop result.1) }
-    ensures prints { MatchResult result.0 (λ _. Prints D.Disk config.now action.now state.old bay lines.new.items state.new result.1) (λ why. Halts D.Disk config.now why action.now state.old bay lines.new.items result.1) }
+        → IfErr result.0 (λ _. HasBroken D.held D.faults config.now action.now (node_of state.old candidates) bay result.1) }
+    ensures prints { IfOk result.0 (λ lines. Prints D.Disk config.now action.now state.old bay lines.items state.new result.1) }
     ensures small { OnOk result.0 (IsBounded state.new.up) }
     ensures keeps { LeavesBay D.Disk config.now (kill_of action.now ≡ None) bay result.1 }
-    ensures cause { (device : ℕ) → result.0 ≡ Err (Stop.Failed device) → HasFailed D.faults config.now bay result.1 device }
 {
     let alloc = means.alloc;
     let mut bay = bay;
     match action {
         Action::Format => {
             let made = act_format(alloc, config, state, &mut bay);
-            (keep_lines(lines, made), bay)
+            (made, bay)
         }
         Action::Recover(kill) => {
             let made = act_recover(alloc, config, state, &mut bay, *kill);
-            (keep_lines(lines, made), bay)
+            (made, bay)
         }
         Action::List(file) => {
             let made = act_list(alloc, config, *state, &mut bay, *file);
-            (keep_lines(lines, made), bay)
+            (made, bay)
         }
-        Action::Run(phase) => act_run(means, config, state, bay, phase, lines),
+        Action::Run(phase) => act_run(means, config, state, bay, phase),
         Action::Lose(volume) => {
             let made = act_lose(alloc, config, state, &mut bay, *volume);
-            (keep_lines(lines, made), bay)
+            (made, bay)
         }
         Action::Rollforward(volume, kill) => {
             let made = act_rollforward(alloc, config, state, &mut bay, *volume, *kill);
-            (keep_lines(lines, made), bay)
+            (made, bay)
         }
     }
 }

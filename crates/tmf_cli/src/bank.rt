@@ -1,5 +1,5 @@
 //! `tmf bank N`: the actions of the bank's text, and the five lines that tell what they came to.
-ghost use Rattle.std.specs.Prelude.{◌≡◌, ◌≢◌, ◌⊎◌, ◌++◌, ◌≤◌, ℕ, [], length, All, List, None, Option, IsTrue, IfErr, IfOk, MatchResult, OnOk};
+ghost use Rattle.std.specs.Prelude.{◌≡◌, ◌⊎◌, ◌++◌, ◌≤◌, ℕ, [], length, All, List, None, Option, IsTrue, IfErr, IfOk, MatchResult, OnOk};
 ghost use Rattle.disk_model.specs.Devices.{DevicesTell};
 ghost use Rattle.run_outcomes.specs.Devices.{devices};
 ghost use Rattle.tmf_edges.specs.Moves.{AppendsPart};
@@ -10,22 +10,20 @@ ghost use Rattle.tmf_lines.specs.Summary.{summary_text};
 ghost use Rattle.tmf_cli.specs.declared.status.Status.{Status};
 ghost use Rattle.tmf_cli.specs.ActionGiven.{EndsAction, EndsScript, KeepsSink};
 ghost use Rattle.tmf_cli.specs.AnyDevices.{EndsPlaying, EndsPrinting, HavePrinted, PrintsBy};
-ghost use Rattle.tmf_cli.specs.Bank.{AnswersBank, CollectsAll, HasCollected, HasGathered, end_status};
+ghost use Rattle.tmf_cli.specs.Bank.{AnswersBank, CollectsAll, HasCollected, HasGathered};
 ghost use Rattle.tmf_cli.specs.BetweenActions.{IsBounded, Knows, LeavesBay, node_of};
 ghost use Rattle.tmf_cli.specs.Countdown.{IsOff, NoneKilled, OnceSwitched, kill_of};
 ghost use Rattle.tmf_cli.specs.Ending.{opening};
 ghost use Rattle.tmf_cli.specs.OutputLaw.{Candidate};
-ghost use Rattle.tmf_cli.specs.Single.{NoneSingle};
 ghost use Rattle.tmf_cli.specs.Status.{code_of};
 ghost use Rattle.tmf_cli.specs.Top.{IsStatusCaused, Opens, Tells};
 
 use crate::act::act;
 use crate::means::Means;
 use crate::node::NodeState;
-use crate::status::{ScriptEnd, Status};
+use crate::status::Status;
 use crate::top::left_alone;
 use disk_model::{Bay, Disk};
-use one_worker::Stop;
 use std::alloc::{AllocError, Global};
 use std::sync::Wait;
 use std::thread::Threads;
@@ -42,7 +40,7 @@ fn collect_action<R: Threads + Wait + Sync, D: Disk + Send>(
     action: &Action,
     lines: &mut Vec<Line>,
     bay: Bay<D>,
-) -> (Result<(), ScriptEnd>, Bay<D>)
+) -> (Result<(), AllocError>, Bay<D>)
     requires valid { IsValidConfig config.now }
     requires action { IsValidAction config.now action.now }
     requires small { IsBounded state.old.up }
@@ -50,21 +48,16 @@ fn collect_action<R: Threads + Wait + Sync, D: Disk + Send>(
     ensures told { (candidates : Option (List Candidate)) → DevicesTell D.tells bay → Knows D.held config.now (node_of state.old candidates) bay
         → OnOk result.0 (HasCollected D.held D.faults config.now action.now (node_of state.old candidates) bay lines.old.items lines.new.items state.new result.1) }
     ensures ended { (candidates : Option (List Candidate)) → DevicesTell D.tells bay → Knows D.held config.now (node_of state.old candidates) bay
-        → IfErr result.0 (λ end. EndsAction D.held D.faults config.now action.now (node_of state.old candidates) bay result.1 end ⊥ [] []) }
+        → IfErr result.0 (λ _. EndsAction D.held D.faults config.now action.now (node_of state.old candidates) bay result.1 GiveFault.NoMemory ⊥ [] []) }
     ensures prints { MatchResult result.0 (λ _. HasGathered D.Disk config.now action.now state.old bay lines.old.items lines.new.items state.new result.1)
-        (λ end. EndsPrinting D.Disk config.now action.now state.old bay result.1 end ⊥ [] []) }
+        (λ _. EndsPrinting D.Disk config.now action.now state.old bay result.1 GiveFault.NoMemory ⊥ [] []) }
     ensures small { OnOk result.0 (IsBounded state.new.up) }
     ensures keeps { LeavesBay D.Disk config.now (kill_of action.now ≡ None) bay result.1 }
-    ensures sinkless { IfErr result.0 (λ end. end ≢ ScriptEnd.GiveFault GiveFault.SinkFailed) }
 {
-    let mut told = Vec::new(means.alloc);
-    let (acted, bay) = act(means, config, state, action, bay, &mut told);
-    if let Err(stop) = acted {
-        return (Err(ScriptEnd::Stopped(stop)), bay);
-    }
-    match lines.append(&mut told) {
-        Ok(()) => (Ok(()), bay),
-        Err(_) => (Err(ScriptEnd::GiveFault(GiveFault::NoMemory)), bay),
+    let (acted, bay) = act(means, config, state, action, bay);
+    match acted {
+        Ok(mut told) => (lines.append(&mut told), bay),
+        Err(error) => (Err(error), bay),
     }
 }
 
@@ -75,7 +68,7 @@ fn collect<R: Threads + Wait + Sync, D: Disk + Send>(
     actions: &[Action],
     lines: &mut Vec<Line>,
     bay: Bay<D>,
-) -> (Result<(), ScriptEnd>, Bay<D>)
+) -> (Result<(), AllocError>, Bay<D>)
     requires valid { IsValidConfig config.now }
     requires actions { All (IsValidAction config.now) actions.now }
     requires none { lines.old.items ≡ [] }
@@ -83,10 +76,9 @@ fn collect<R: Threads + Wait + Sync, D: Disk + Send>(
     ensures told { (candidates : Option (List Candidate)) → DevicesTell D.tells bay → Knows D.held config.now (opening candidates) bay
         → OnOk result.0 (CollectsAll D.held D.faults config.now (opening candidates) actions.now bay lines.new.items result.1) }
     ensures ended { (candidates : Option (List Candidate)) → DevicesTell D.tells bay → Knows D.held config.now (opening candidates) bay
-        → IfErr result.0 (λ end. EndsScript D.held D.faults config.now (opening candidates) actions.now bay result.1 end ⊥ [] []) }
-    ensures prints { MatchResult result.0 (λ _. HavePrinted D.Disk config.now actions.now bay lines.new.items result.1) (λ end. EndsPlaying D.Disk config.now actions.now bay result.1 end ⊥ [] []) }
+        → IfErr result.0 (λ _. EndsScript D.held D.faults config.now (opening candidates) actions.now bay result.1 GiveFault.NoMemory ⊥ [] []) }
+    ensures prints { MatchResult result.0 (λ _. HavePrinted D.Disk config.now actions.now bay lines.new.items result.1) (λ _. EndsPlaying D.Disk config.now actions.now bay result.1 GiveFault.NoMemory ⊥ [] []) }
     ensures keeps { LeavesBay D.Disk config.now (NoneKilled actions.now) bay result.1 }
-    ensures sinkless { IfErr result.0 (λ end. end ≢ ScriptEnd.GiveFault GiveFault.SinkFailed) }
 {
     let mut bay = bay;
     let mut state = NodeState::new();
@@ -94,25 +86,12 @@ fn collect<R: Threads + Wait + Sync, D: Disk + Send>(
     while let Some((action, more)) = rest.split_first() {
         let (collected, left) = collect_action(means, config, &mut state, action, lines, bay);
         bay = left;
-        if let Err(end) = collected {
-            return (Err(end), bay);
+        if let Err(error) = collected {
+            return (Err(error), bay);
         }
         rest = more;
     }
     (Ok(()), bay)
-}
-
-/// The status of a script that ended before its lines were to be summed up.
-fn status_of(end: ScriptEnd) -> Status
-    ensures { result ≡ end_status end }
-{
-    match end {
-        ScriptEnd::GiveFault(fault) => Status::of_fault(fault),
-        ScriptEnd::Stopped(stop) => match stop {
-            Stop::NoMemory => Status::NoMemory,
-            Stop::Failed(_) | Stop::Damaged(_) => Status::Stopped,
-        },
-    }
 }
 
 /// Carries out a script's actions and collects their lines, with the countdown off before the first.
@@ -121,27 +100,21 @@ fn carry_out_bank<R: Threads + Wait + Sync, D: Disk + Send>(
     script: &Script,
     lines: &mut Vec<Line>,
     bay: Bay<D>,
-) -> (Result<(), Status>, Bay<D>)
+) -> (Result<(), AllocError>, Bay<D>)
     requires valid { IsValidScript script.now }
     requires none { lines.old.items ≡ [] }
     ensures told { (candidates : Option (List Candidate)) → DevicesTell D.tells bay → Opens D.held script.now bay candidates
         → OnOk result.0 (OnceSwitched (λ opened. CollectsAll D.held D.faults script.now.config (opening candidates) script.now.actions opened lines.new.items result.1) bay) }
     ensures ended { (candidates : Option (List Candidate)) → DevicesTell D.tells bay → Opens D.held script.now bay candidates
-        → IfErr result.0 (λ how. OnceSwitched (λ opened. Tells D.held D.faults script.now candidates how opened result.1 ⊥ [] []) bay) }
+        → IfErr result.0 (λ _. OnceSwitched (λ opened. Tells D.held D.faults script.now candidates Status.NoMemory opened result.1 ⊥ [] []) bay) }
     ensures prints { MatchResult result.0 (λ _. OnceSwitched (λ opened. HavePrinted D.Disk script.now.config script.now.actions opened lines.new.items result.1) bay)
-        (λ how. OnceSwitched (λ opened. PrintsBy D.Disk script.now.config script.now.actions (code_of how) opened result.1 ⊥ [] []) bay) }
-    ensures how { IfErr result.0 (λ how. (how ≡ Status.NoMemory) ⊎ (how ≡ Status.Stopped)) }
-    ensures unstopped { NoneSingle script.now.config script.now.actions → IfErr result.0 (λ how. how ≡ Status.NoMemory) }
+        (λ _. OnceSwitched (λ opened. PrintsBy D.Disk script.now.config script.now.actions 2 opened result.1 ⊥ [] []) bay) }
     ensures keeps { OnceSwitched (λ opened. LeavesBay D.Disk script.now.config (NoneKilled script.now.actions) opened result.1) bay }
     ensures all { length bay ≡ devices }
 {
     let mut bay = bay;
     bay.disarm();
-    let (collected, bay) = collect(means, &script.config, script.actions.as_slice(), lines, bay);
-    match collected {
-        Ok(()) => (Ok(()), bay),
-        Err(end) => (Err(status_of(end)), bay),
-    }
+    collect(means, &script.config, script.actions.as_slice(), lines, bay)
 }
 
 /// The script of the bank's text.
@@ -192,6 +165,6 @@ pub fn run_bank<R: Threads + Wait + Sync, K: Sink, D: Disk + Send>(
     let (carried, bay) = carry_out_bank(means, &script, &mut lines, bay);
     match carried {
         Ok(()) => (sum_up(means.alloc, sink, transfers, &lines), bay),
-        Err(status) => (status, bay),
+        Err(_) => (Status::NoMemory, bay),
     }
 }

@@ -9,13 +9,16 @@ ghost use Rattle.tmf_model.specs.Config.{IsValidConfig};
 ghost use Rattle.volume_recovery.specs.VolumeFormat.{IsNodeDevice};
 
 use disk_model::Disk;
+use single_law::one_run_law;
 use tmf_model::Config;
 
-/// Where no device fails, the output of a script whose runs are single is one function of it: two outputs of one that formats first are the same, whatever devices there are and whatever
-/// they held. A law over two calls, in the words of their clause `told`; the clause `one_output` of `tmf` says it of one call against any other.
+/// Where no device fails, and no line tells of a limit or of want of memory, the output of a script whose runs are single is one function of it: two outputs of one that formats first are the
+/// same, whatever devices there are and whatever they held. A law over two calls, in the words of their clause `told`; the clause `one_output` of `tmf` says it of one call against any other.
 pub fn one_output_law<D: Disk>(config: &Config)
     ensures { OneOutput D.held D.faults config.now }
-{}
+{
+    one_run_law();
+}
 
 /// The headline of a row of actions that were carried out, from any node on: behind the last format, what stands is what stood with the commits that the lines acknowledge, each at its
 /// place, and some or none of those that they leave in doubt, and the map is the fold of the script's transactions over them. The clause `headline` of `tmf` says it of a call, however it ends.

@@ -11,10 +11,8 @@ mod lost;
 mod made;
 mod means;
 mod node;
-mod outcomes;
 mod play;
 mod rolling;
-mod single;
 mod status;
 #[cfg(test)]
 mod tests;

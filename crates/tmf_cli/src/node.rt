@@ -1,5 +1,5 @@
 //! What the program knows of the node between two actions.
-ghost use Rattle.std.specs.Prelude.{◌≡◌, ◌+◌, ◌<◌, ◌≤◌, ◌^◌, max, length, Some, None, false, true};
+ghost use Rattle.std.specs.Prelude.{◌≡◌, ◌≤◌, max, length, Some, None, false, true};
 ghost use Rattle.volume_restore.specs.Bases.{volume_on};
 ghost use Rattle.tmf_cli.specs.Lost.{is_lost_volume, lost_flags, none_lost, unless, up_for, with_volume};
 ghost use Rattle.tmf_cli.specs.OutputLaw.{unrolled_state};
@@ -13,8 +13,6 @@ use tmf_model::{Config, Phase};
 pub struct Up {
     /// The epoch of the next run.
     pub epoch: u32,
-    /// The place of the monitor trail's next record.
-    pub place: u64,
     /// Of the volumes 1 to 8, whether each is lost; one that no volume has is not.
     pub lost: [bool; 8],
 }
@@ -44,12 +42,11 @@ impl NodeState {
 
     /// Behind a format.
     pub fn formatted() -> NodeState
-        ensures { result ≡ record { up = Some (record { epoch = 1; place = 2; lost = none_lost }); formatted = true; printed = 0 } }
+        ensures { result ≡ record { up = Some (record { epoch = 1; lost = none_lost }); formatted = true; printed = 0 } }
     {
         NodeState {
             up: Some(Up {
                 epoch: 1,
-                place: 2,
                 lost: lost_flags(&[]),
             }),
             formatted: true,
@@ -70,13 +67,11 @@ impl NodeState {
 
     /// Behind a recovery that has read so many records, and has found these volumes lost.
     pub fn recovered(self, records: u64, lost: &[u8], epoch: u32) -> NodeState
-        requires { records + 2 < 2 ^ 64 }
-        ensures { result ≡ record { up = Some (record { epoch = epoch; place = records + 2; lost = lost_flags lost.now }); formatted = self.formatted; printed = max self.printed records } }
+        ensures { result ≡ record { up = Some (record { epoch = epoch; lost = lost_flags lost.now }); formatted = self.formatted; printed = max self.printed records } }
     {
         NodeState {
             up: Some(Up {
                 epoch,
-                place: records + 2,
                 lost: lost_flags(lost),
             }),
             formatted: self.formatted,

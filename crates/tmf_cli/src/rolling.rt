@@ -1,5 +1,5 @@
 //! The rollforward of a lost volume: what it does to the node, and the line that it has to print.
-ghost use Rattle.std.specs.Prelude.{◌≡◌, [], List, Option, None, IfErr, IfOk, MatchResult, OnOk};
+ghost use Rattle.std.specs.Prelude.{◌≡◌, List, Option, None, IfErr, IfOk, MatchResult, OnOk};
 ghost use Rattle.disk_model.specs.Devices.{DevicesTell};
 ghost use Rattle.tmf_model.specs.Config.{IsDeclared, IsValidConfig};
 ghost use Rattle.tmf_model.specs.declared.script.Action.TheVariants.{Rollforward as RollAction};
@@ -11,9 +11,8 @@ ghost use Rattle.tmf_cli.specs.OutputLaw.{Candidate, IsRollLine};
 use crate::countdown::roll_within;
 use crate::node::NodeState;
 use disk_model::{Bay, Disk};
-use one_worker::Stop;
 use rollforward::RollError;
-use std::alloc::Global;
+use std::alloc::{AllocError, Global};
 use tmf_lines::{Line, node_device_name, volume_name};
 use tmf_model::Config;
 use volume_restore::spelled_volume_law;
@@ -26,7 +25,7 @@ pub fn act_rollforward<D: Disk>(
     bay: &mut Bay<D>,
     volume: u8,
     kill: Option<u64>,
-) -> Result<Vec<Line>, Stop>
+) -> Result<Vec<Line>, AllocError>
     requires valid { IsValidConfig config.now }
     requires declared { IsDeclared config.now.volumes volume }
     requires small { IsBounded state.old.up }
@@ -34,11 +33,10 @@ pub fn act_rollforward<D: Disk>(
     ensures done { (candidates : Option (List Candidate)) → DevicesTell D.tells bay.old → Knows D.held config.now (node_of state.old candidates) bay.old
         → IfOk result (λ lines. HasDone D.held D.faults config.now (RollAction volume kill) (node_of state.old candidates) bay.old lines.items state.new bay.new) }
     ensures broken { (candidates : Option (List Candidate)) → DevicesTell D.tells bay.old → Knows D.held config.now (node_of state.old candidates) bay.old
-        → IfErr result (λ stop. HasBroken D.held D.faults config.now (RollAction volume kill) (node_of state.old candidates) bay.old [] stop bay.new) }
+        → IfErr result (λ _. HasBroken D.held D.faults config.now (RollAction volume kill) (node_of state.old candidates) bay.old bay.new) }
     ensures prints { IfOk result (λ lines. Prints D.Disk config.now (RollAction volume kill) state.old bay.old lines.items state.new bay.new) }
     ensures small { OnOk result (IsBounded state.new.up) }
     ensures keeps { LeavesBay D.Disk config.now (kill ≡ None) bay.old bay.new }
-    ensures memory { IfErr result (λ stop. stop ≡ Stop.NoMemory) }
 {
     spelled_volume_law();
     let name = volume_name(config, volume);
@@ -63,8 +61,8 @@ pub fn act_rollforward<D: Disk>(
 }
 
 /// The line of a rollforward that was refused, if it was not for want of memory.
-fn roll_line(config: &Config, volume: u8, error: RollError) -> Result<Line, Stop>
-    ensures { MatchResult result (IsRollLine config.now volume error) (λ stop. (stop ≡ Stop.NoMemory) × (error ≡ RollError.NoMemory)) }
+fn roll_line(config: &Config, volume: u8, error: RollError) -> Result<Line, AllocError>
+    ensures { MatchResult result (IsRollLine config.now volume error) (λ _. error ≡ RollError.NoMemory) }
 {
     let name = volume_name(config, volume);
     match error {
@@ -76,6 +74,6 @@ fn roll_line(config: &Config, volume: u8, error: RollError) -> Result<Line, Stop
             node_device_name(config, device),
             damage,
         )),
-        RollError::NoMemory => Err(Stop::NoMemory),
+        RollError::NoMemory => Err(AllocError),
     }
 }

@@ -1,5 +1,4 @@
 //! How the program ends.
-use one_worker::Stop;
 use tmf_lines::GiveFault;
 
 /// The program's exit status.
@@ -9,14 +8,11 @@ pub enum Status {
     Done,
     /// The words are not accepted.
     Usage,
-    /// There was no memory, or a run was refused since positions are spent, a file has no room, or a volume that an item names is lost.
     NoMemory,
     SourceFailed,
     SinkFailed,
     /// The text is no script.
     Refused,
-    /// A device failed, or its bytes break the format of trails or of volumes.
-    Stopped,
 }
 
 impl Status {
@@ -34,7 +30,6 @@ impl Status {
             Status::SourceFailed => 3,
             Status::SinkFailed => 4,
             Status::Refused => 5,
-            Status::Stopped => 6,
         }
     }
 
@@ -47,11 +42,4 @@ impl Status {
             GiveFault::SinkFailed => Status::SinkFailed,
         }
     }
-}
-
-/// Why the actions did not all print their lines.
-#[derive(Clone, Copy, Debug, PartialEq, Eq)]
-pub enum ScriptEnd {
-    GiveFault(GiveFault),
-    Stopped(Stop),
 }

@@ -497,45 +497,79 @@ fn long_listings_are_given_in_pieces(rt: HostRuntime) -> Result<(), Fail> {
 
 // The script makes 21 calls of the monitor trail's device: 1 to ask for an old trail, 2 to format and 4 to land a batch; 3 to
 // attach, which reads all of the trail, and 4 to land; 3 to attach and 4 to land. Of the audit trail's it makes 12:
-// 2 to format; 3 to attach and 4 to land; 3 to attach. Of the volume's device, where 1 reads the label and 1 reads a file whole, it makes 33:
-// 17 to format; 1 for the low position and 2 to read the file; 1 for the low position, 2 to read before the first write, and 4 for
-// each of a block and the label; 2 to list. Of the dumps' it makes 3.
-/// Calls of a device, from one up to another, and the status and the output where one of them fails.
-type ToldCalls = (usize, u64, u64, u8, &'static str);
+// 2 to format; 3 to attach and 4 to land; 3 to attach. Of the volume's device, where 1 reads the label and 1 reads a file whole, it makes 34:
+// 17 to format; 1 for the low position and 3 to read a block; 1 for the low position, 2 to read before the first write, and 4 for
+// each of a block and the label; 2 to list. Of the dumps' it makes 4, of which the last looks for a dump before the run.
+/// Calls of a device, from one up to another, and the output where one of them fails.
+type ToldCalls = (usize, u64, u64, &'static str);
 
-const TRAIL_CALLS: [ToldCalls; 8] = [
+const TRAIL_CALLS: [ToldCalls; 10] = [
     (
         0,
         0,
         7,
-        0,
         "format failed MAT\nrun not up\nrecover not up\nlist ACCT not up\n",
     ),
-    (0, 7, 14, 6, "formatted\nstopped MAT failed\n"),
+    (
+        0,
+        7,
+        10,
+        "formatted\nrun failed MAT\n1 start 1\nrecovered 2\nlisted ACCT 0\n",
+    ),
+    (
+        0,
+        10,
+        13,
+        "formatted\n1.1.1.1 indoubt MAT\n1 start 1\nrecovered 2\nlisted ACCT 0\n",
+    ),
+    (
+        0,
+        13,
+        14,
+        "formatted\n1.1.1.1 indoubt MAT\n1 start 1\n2 commit 1.1.1.1\nrecovered 2\nACCT k1 v1\nlisted ACCT 1\n",
+    ),
     (
         0,
         14,
         21,
-        0,
         "formatted\n1.1.1.1 committed 2\nrecover failed MAT\nlist ACCT not up\n",
     ),
-    (0, 21, 26, 0, FIRST_OUTPUT),
+    (0, 21, 26, FIRST_OUTPUT),
     (
         1,
         0,
         2,
-        0,
         "format failed AUX1\nrun not up\nrecover not up\nlist ACCT not up\n",
     ),
-    (1, 2, 9, 6, "formatted\nstopped AUX1 failed\n"),
+    (
+        1,
+        2,
+        5,
+        "formatted\nrun failed AUX1\n1 start 1\nrecovered 2\nlisted ACCT 0\n",
+    ),
     (
         1,
         9,
         12,
-        0,
         "formatted\n1.1.1.1 committed 2\nrecover failed AUX1\nlist ACCT not up\n",
     ),
-    (1, 12, 17, 0, FIRST_OUTPUT),
+    (1, 12, 17, FIRST_OUTPUT),
+];
+
+/// Calls for an attempt alone, which is then backed out.
+const ATTEMPT_CALLS: [ToldCalls; 2] = [
+    (
+        1,
+        5,
+        9,
+        "formatted\n1.1.1.1 failed AUX1\n1 start 1\n2 abort 1.1.1.1\nrecovered 2\nlisted ACCT 0\n",
+    ),
+    (
+        5,
+        18,
+        21,
+        "formatted\n1.1.1.1 failed $DATA1\n1 start 1\n2 abort 1.1.1.1\nrecovered 2\nlisted ACCT 0\n",
+    ),
 ];
 
 const VOLUME_CALLS: [ToldCalls; 4] = [
@@ -543,38 +577,45 @@ const VOLUME_CALLS: [ToldCalls; 4] = [
         5,
         0,
         17,
-        0,
         "format failed $DATA1\nrun not up\nrecover not up\nlist ACCT not up\n",
     ),
-    (5, 17, 20, 6, "formatted\nstopped $DATA1 failed\n"),
     (
         5,
-        31,
-        33,
-        0,
+        17,
+        18,
+        "formatted\nrun failed $DATA1\n1 start 1\nrecovered 2\nlisted ACCT 0\n",
+    ),
+    (
+        5,
+        32,
+        34,
         "formatted\n1.1.1.1 committed 2\n1 start 1\n2 commit 1.1.1.1\nrecovered 2\nlist ACCT failed $DATA1\n",
     ),
-    (5, 33, 38, 0, FIRST_OUTPUT),
+    (5, 34, 39, FIRST_OUTPUT),
 ];
 
 /// Those of the volume's device in the recovery, which are most.
 const RECOVERY_CALLS: [ToldCalls; 1] = [(
     5,
-    20,
-    31,
-    0,
+    21,
+    32,
     "formatted\n1.1.1.1 committed 2\nrecover failed $DATA1\nlist ACCT not up\n",
 )];
 
-const DUMP_CALLS: [ToldCalls; 2] = [
+const DUMP_CALLS: [ToldCalls; 3] = [
     (
         13,
         0,
         3,
-        0,
         "format failed DUMP$DATA1\nrun not up\nrecover not up\nlist ACCT not up\n",
     ),
-    (13, 3, 8, 0, FIRST_OUTPUT),
+    (
+        13,
+        3,
+        4,
+        "formatted\nrun failed DUMP$DATA1\n1 start 1\nrecovered 2\nlisted ACCT 0\n",
+    ),
+    (13, 4, 9, FIRST_OUTPUT),
 ];
 
 /// Lets this call of a device fail. Whatever is left, a format begins anew.
@@ -583,7 +624,6 @@ fn fails_so<R: Threads + Wait + Sync + Abort>(
     alloc: Global,
     device: usize,
     n: u64,
-    status: u8,
     output: &str,
 ) -> Result<(), Fail> {
     let fails = Fails {
@@ -591,7 +631,7 @@ fn fails_so<R: Threads + Wait + Sync + Abort>(
         calls: &[n],
         ..NO_FAILS
     };
-    let bay = expect(rt, alloc, fails, status, output)?;
+    let bay = expect(rt, alloc, fails, 0, output)?;
     if output != FIRST_OUTPUT {
         expect_over(rt, alloc, FIRST, NO_FAILS, (0, FIRST_OUTPUT), bay)?;
     }
@@ -604,9 +644,9 @@ fn failing_calls_are_told<R: Threads + Wait + Sync + Abort>(
     alloc: Global,
     calls: &[ToldCalls],
 ) -> Result<(), Fail> {
-    for (device, from, to, status, output) in calls {
+    for (device, from, to, output) in calls {
         for n in *from..*to {
-            fails_so(rt, alloc, *device, n, *status, output)?;
+            fails_so(rt, alloc, *device, n, output)?;
         }
     }
     Ok(())
@@ -615,6 +655,11 @@ fn failing_calls_are_told<R: Threads + Wait + Sync + Abort>(
 #[test]
 fn failing_calls_of_trails_are_told(rt: HostRuntime) -> Result<(), Fail> {
     failing_calls_are_told(&rt, rt.alloc(), &TRAIL_CALLS)
+}
+
+#[test]
+fn failing_calls_for_an_attempt_are_told(rt: HostRuntime) -> Result<(), Fail> {
+    failing_calls_are_told(&rt, rt.alloc(), &ATTEMPT_CALLS)
 }
 
 #[test]

@@ -1,5 +1,5 @@
-//! Runs on threads: several workers at once, control points and dumps, and runs that are cut off.
-ghost use Rattle.std.specs.Prelude.{◌≡◌, ◌⊎◌, ◌≤◌, [], List, Option, Some, None, MatchResult, IfErr, IfOk};
+//! Runs: their workers on threads, control points and dumps, and runs that are cut off.
+ghost use Rattle.std.specs.Prelude.{◌≡◌, ◌⊎◌, ◌≤◌, List, Option, Some, None, MatchResult, IfErr, IfOk};
 ghost use Rattle.disk_model.specs.Devices.{DevicesTell};
 ghost use Rattle.tmf_model.specs.Config.{IsValidConfig};
 ghost use Rattle.tmf_model.specs.Script.{IsValidPhase};
@@ -10,7 +10,6 @@ ghost use Rattle.tmf_cli.specs.BetweenActions.{HasBroken, HasDone, Knows, Leaves
 ghost use Rattle.tmf_cli.specs.Countdown.{IsOff};
 ghost use Rattle.tmf_cli.specs.Lost.{up_for};
 ghost use Rattle.tmf_cli.specs.OutputLaw.{Candidate, IsRunLine, down};
-ghost use Rattle.tmf_cli.specs.Single.{IsSingle};
 ghost use Rattle.tmf_cli.specs.Threads.{RunsBay};
 
 use crate::countdown::arm;
@@ -20,9 +19,10 @@ use crate::node::Up;
 use crate::told::run_lines;
 use disk_model::{Bay, Disk};
 use node_run::run_phase;
-use one_worker::Stop;
 use run_outcomes::{Gate, Outcome, PhaseError};
-use run_standing::{stands_law, telling_law, undamaged_law};
+use run_standing::{telling_law, undamaged_law};
+use single_law::{no_dump_law, row_law, single_law};
+use std::alloc::AllocError;
 use std::sync::Wait;
 use std::thread::Threads;
 use tmf_lines::{Line, node_device_name};
@@ -65,8 +65,8 @@ fn run_within<R: Threads + Wait + Sync, D: Disk + Send>(
 }
 
 /// The line of a run of which no worker has begun, if it was not for want of memory.
-fn run_line(config: &Config, error: PhaseError) -> Result<Line, Stop>
-    ensures { MatchResult result (IsRunLine config.now error) (λ stop. (stop ≡ Stop.NoMemory) × (error ≡ PhaseError.NoMemory)) }
+fn run_line(config: &Config, error: PhaseError) -> Result<Line, AllocError>
+    ensures { MatchResult result (IsRunLine config.now error) (λ _. error ≡ PhaseError.NoMemory) }
 {
     match error {
         PhaseError::Failed(device) => Ok(Line::RunFailed(node_device_name(config, device))),
@@ -74,7 +74,7 @@ fn run_line(config: &Config, error: PhaseError) -> Result<Line, Stop>
             node_device_name(config, device),
             damage,
         )),
-        PhaseError::NoMemory => Err(Stop::NoMemory),
+        PhaseError::NoMemory => Err(AllocError),
     }
 }
 
@@ -85,32 +85,33 @@ pub fn act_threads<R: Threads + Wait + Sync, D: Disk + Send>(
     up: Up,
     bay: Bay<D>,
     phase: &Phase,
-) -> (Result<Vec<Line>, Stop>, Bay<D>)
+) -> (Result<Vec<Line>, AllocError>, Bay<D>)
     requires valid { IsValidConfig config.now }
     requires phase { IsValidPhase config.now phase.now }
     requires epoch { 1 ≤ up.epoch }
     requires off { IsOff bay }
-    ensures done { (state : NodeState) (candidates : Option (List Candidate)) → up_for config.now phase.now state ≡ Some up → ¬ IsSingle config.now phase.now → DevicesTell D.tells bay → Knows D.held config.now (node_of state candidates) bay
+    ensures done { (state : NodeState) (candidates : Option (List Candidate)) → up_for config.now phase.now state ≡ Some up → DevicesTell D.tells bay → Knows D.held config.now (node_of state candidates) bay
         → IfOk result.0 (λ lines. HasDone D.held D.faults config.now (RunAction phase.now) (node_of state candidates) bay lines.items (down state) result.1) }
-    ensures broken { (state : NodeState) (candidates : Option (List Candidate)) → up_for config.now phase.now state ≡ Some up → ¬ IsSingle config.now phase.now → DevicesTell D.tells bay → Knows D.held config.now (node_of state candidates) bay
-        → IfErr result.0 (λ stop. HasBroken D.held D.faults config.now (RunAction phase.now) (node_of state candidates) bay [] stop result.1) }
+    ensures broken { (state : NodeState) (candidates : Option (List Candidate)) → up_for config.now phase.now state ≡ Some up → DevicesTell D.tells bay → Knows D.held config.now (node_of state candidates) bay
+        → IfErr result.0 (λ _. HasBroken D.held D.faults config.now (RunAction phase.now) (node_of state candidates) bay result.1) }
     ensures prints { (state : NodeState) → up_for config.now phase.now state ≡ Some up
         → IfOk result.0 (λ lines. PrintsRun D.Disk config.now phase.now state bay lines.items (down state) result.1 ⊎ PrintsNoRun D.Disk config.now phase.now state bay lines.items (down state) result.1) }
     ensures keeps { LeavesBay D.Disk config.now (phase.now.kill ≡ None) bay result.1 }
-    ensures memory { IfErr result.0 (λ stop. stop ≡ Stop.NoMemory) }
 {
-    stands_law::<D>();
+    no_dump_law::<D>();
+    row_law::<D>();
+    single_law::<D>();
     telling_law::<D>();
     undamaged_law::<D>();
     let (ran, bay) = run_within(means, config, up.epoch, phase, bay);
     match ran {
         Ok(outcomes) => match run_lines(means.alloc, config, outcomes.as_slice()) {
             Ok(lines) => (Ok(lines), bay),
-            Err(_) => (Err(Stop::NoMemory), bay),
+            Err(error) => (Err(error), bay),
         },
         Err(error) => match run_line(config, error) {
             Ok(line) => (one_line(means.alloc, line), bay),
-            Err(stop) => (Err(stop), bay),
+            Err(error) => (Err(error), bay),
         },
     }
 }

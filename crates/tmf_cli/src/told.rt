@@ -1,13 +1,35 @@
-//! The lines of what the attempts of a run on threads have come to.
+//! The lines of what the attempts of a run have come to.
 ghost use Rattle.std.specs.Prelude.{◌≡◌, ◌++◌, [], ◌∷◌, IfOk, OnOk};
-ghost use Rattle.tmf_cli.specs.Outcomes.{read_lines};
-ghost use Rattle.tmf_cli.specs.RunLines.{hang_line, reads_told, run_lines, told_lines};
+ghost use Rattle.tmf_cli.specs.RunLines.{hang_line, read_line, read_lines, reads_told, run_lines, told_lines};
 
-use crate::outcomes::add_reads;
 use run_outcomes::{Hang, Outcome, Told};
 use std::alloc::{AllocError, Global};
 use tmf_lines::{Line, add_line, file_name, node_device_name, part_name, spent_line, volume_name};
 use tmf_model::{Config, Transid, Value};
+
+/// The line of what a read of a transaction, by the number of its operation, has found.
+fn read_line(tx: Transid, op: u8, found: Option<Value>) -> Line
+    ensures { result ≡ read_line tx op found }
+{
+    match found {
+        Some(value) => Line::Read(tx, op, value),
+        None => Line::ReadAbsent(tx, op),
+    }
+}
+
+/// Adds a line for each read of a transaction.
+fn add_reads(
+    lines: &mut Vec<Line>,
+    tx: Transid,
+    reads: &[(u8, Option<Value>)],
+) -> Result<(), AllocError>
+    ensures { OnOk result (lines.new.items ≡ lines.old.items ++ read_lines tx reads.now) }
+{
+    for read in reads {
+        add_line(lines, read_line(tx, read.0, read.1))?;
+    }
+    Ok(())
+}
 
 /// The line of an attempt that was not backed out.
 fn hang_line(config: &Config, tx: Transid, why: Hang) -> Line
@@ -70,7 +92,7 @@ fn add_told(lines: &mut Vec<Line>, config: &Config, outcome: &Outcome) -> Result
     add_reads(lines, tx, reads_of(&outcome.told))
 }
 
-/// The lines of the outcomes of a run on threads, in their order.
+/// The lines of the outcomes of a run, in their order.
 pub fn run_lines(
     alloc: Global,
     config: &Config,

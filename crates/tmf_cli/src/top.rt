@@ -19,26 +19,24 @@ ghost use Rattle.tmf_cli.specs.Single.{AreSingle};
 ghost use Rattle.tmf_cli.specs.Status.{code_of};
 ghost use Rattle.tmf_lines.specs.Script.{IsRefusalOf, IsScriptOf};
 ghost use Rattle.tmf_cli.specs.OneOutput.{FormatsFirst, IsTheOutput, NoneRose};
-ghost use Rattle.tmf_cli.specs.OutputLaw.{HasFailed, Candidate};
+ghost use Rattle.tmf_cli.specs.OutputLaw.{Candidate};
 ghost use Rattle.tmf_cli.specs.ReadScript.{KeepsSource, ReadsNone, ReadsScript};
-ghost use Rattle.tmf_cli.specs.Top.{IsPlayed, read_limit, stop_lines, IsStatusCaused, IsGiven, EndsStopped, SaysWhy, TellsRefusal, Opens, Tells, TellsBy};
+ghost use Rattle.tmf_cli.specs.Top.{IsPlayed, read_limit, IsStatusCaused, IsGiven, SaysWhy, TellsRefusal, Opens, Tells, TellsBy};
 ghost use Rattle.tmf_words.specs.Words.{are_accepted, bank_of, is_run};
 ghost use Rattle.disk_model.specs.Devices.{DevicesTell};
 
 use crate::bank::run_bank;
 use crate::means::Means;
 use crate::play::play;
-use crate::status::{ScriptEnd, Status};
+use crate::status::Status;
 use disk_model::{Bay, Disk};
-use one_worker::Stop;
+use single_law::one_run_law;
 use std::alloc::Global;
 use std::sync::Wait;
 use std::thread::Threads;
 use tmf_edges::{ReadFault, Sink, Source, read_to_limit};
-use tmf_lines::{
-    DeviceTrouble, GiveFault, Line, ScriptRefusal, device_name, give_lines, read_script,
-};
-use tmf_model::{Config, Script};
+use tmf_lines::{GiveFault, Line, ScriptRefusal, give_lines, read_script};
+use tmf_model::Script;
 use tmf_words::{Asked, accepts, asked_by};
 
 /// The most bytes that are read of a script: one more than it may have.
@@ -59,33 +57,6 @@ fn tell<K: Sink>(alloc: Global, sink: &mut K, line: Line, status: Status) -> Sta
     }
 }
 
-/// Names the device at which a run stopped.
-fn tell_stop<K: Sink>(alloc: Global, sink: &mut K, config: &Config, stop: Stop) -> Status
-    ensures told { IsTrue (K.tells sink.old) → result ≡ Status.Stopped → K.given sink.new ≡ K.given sink.old ++ lines_text (stop_lines config.now stop) }
-    ensures none { IsTrue (K.tells sink.old) → result ≡ Status.NoMemory → K.given sink.new ≡ K.given sink.old }
-    ensures part { IsTrue (K.tells sink.old) → result ≡ Status.SinkFailed → AppendsPart (K.given sink.old) (K.given sink.new) (lines_text (stop_lines config.now stop)) }
-    ensures silent { stop ≡ Stop.NoMemory → result ≡ Status.NoMemory }
-    ensures cause { IsStatusCaused result (K.faults sink.old) (K.faults sink.new) }
-    ensures ended { result ≢ Status.Done }
-    ensures tells { K.tells sink.new ≡ K.tells sink.old }
-    ensures later { K.faults sink.old ≤ K.faults sink.new }
-{
-    let (device, trouble) = match stop {
-        Stop::NoMemory => return Status::NoMemory,
-        Stop::Failed(device) => (device, DeviceTrouble::Failed),
-        Stop::Damaged(device) => (device, DeviceTrouble::Damaged),
-    };
-    match give_lines(
-        alloc,
-        sink,
-        &[Line::Stopped(device_name(config, device), trouble)],
-    ) {
-        Ok(()) => Status::Stopped,
-        Err(GiveFault::SinkFailed) => Status::SinkFailed,
-        Err(GiveFault::NoMemory) => Status::NoMemory,
-    }
-}
-
 /// Carries out the script's actions, with the countdown off before the first, and answers how they end.
 fn carry_out<R: Threads + Wait + Sync, K: Sink, D: Disk + Send>(
     means: Means<'_, R>,
@@ -96,8 +67,6 @@ fn carry_out<R: Threads + Wait + Sync, K: Sink, D: Disk + Send>(
     requires valid { IsValidScript script.now }
     ensures told { (candidates : Option (List Candidate)) → DevicesTell D.tells bay → Opens D.held script.now bay candidates
         → OnceSwitched (λ opened. Tells D.held D.faults script.now candidates result.0 opened result.1 (IsTrue (K.tells sink.old)) (K.given sink.old) (K.given sink.new)) bay }
-    ensures stopped { DevicesTell D.tells bay → result.0 ≡ Status.Stopped → (device : ℕ) × HasFailed D.faults script.now.config bay result.1 device }
-    ensures ends { IsTrue (K.tells sink.old) → result.0 ≡ Status.Stopped → EndsStopped script.now.config (HasFailed D.faults script.now.config bay result.1) (K.given sink.old) (K.given sink.new) }
     ensures prints { OnceSwitched (λ opened. PrintsBy D.Disk script.now.config script.now.actions (code_of result.0) opened result.1 (IsTrue (K.tells sink.old)) (K.given sink.old) (K.given sink.new)) bay }
     ensures keeps { OnceSwitched (λ opened. LeavesBay D.Disk script.now.config (NoneKilled script.now.actions) opened result.1) bay }
     ensures keeps_sink { KeepsSink K.Sink sink.old sink.new }
@@ -109,10 +78,7 @@ fn carry_out<R: Threads + Wait + Sync, K: Sink, D: Disk + Send>(
     let (played, bay) = play(means, &script.config, script.actions.as_slice(), sink, bay);
     match played {
         Ok(()) => (Status::Done, bay),
-        Err(end) => match end {
-            ScriptEnd::GiveFault(fault) => (Status::of_fault(fault), bay),
-            ScriptEnd::Stopped(stop) => (tell_stop(means.alloc, sink, &script.config, stop), bay),
-        },
+        Err(fault) => (Status::of_fault(fault), bay),
     }
 }
 
@@ -207,7 +173,7 @@ pub fn tmf<R: Threads + Wait + Sync, S: Source, K: Sink, D: Disk + Send>(
     ensures usage { are_accepted (map string_bytes words.now) ≡ false → AnswersUsage K.Sink result.0 source.old source.new sink.old sink.new bay result.1 }
 
     // The promise: however the call ends, whatever a crash then leaves of the devices stands for what stood at the last whole format, or when the call began, and behind it for every
-    // commit that the lines acknowledge since, each at its place and whole, for those alone besides that they leave in doubt, and, where the device of the monitor trail has failed in a single run, at most one more that was in flight, and for nothing of any other transaction;
+    // commit that the lines acknowledge since, each at its place and whole, for those alone besides that they leave in doubt, and for nothing of any other transaction;
     // unless the last format that was begun was not whole, or nothing was known of the devices and the script has formatted none. Its premises: source and devices tell their state, and
     // the devices that are handed in may stand for these lists and maps.
     ensures headline { (script : Script) (candidates : Option (List Candidate)) → is_run (map string_bytes words.now) ≡ true → IsScriptOf script (take read_limit (S.rest source.old))
@@ -215,31 +181,32 @@ pub fn tmf<R: Threads + Wait + Sync, S: Source, K: Sink, D: Disk + Send>(
         → OnceSwitched (λ opened. KeepsEveryCommit D.held D.faults script candidates result.0 opened result.1 (IsTrue (K.tells sink.old)) (K.given sink.old) (K.given sink.new)) bay }
 
     // The lines of the promise tell of no device more often than it has failed: its count of faults rose in the call by as many, or stands at the end of its type. They are the lines of
-    // failed actions and attempts, of a commit in doubt, of an attempt that was not backed out for a failed call, and of a device that stopped the script.
+    // failed actions and attempts, of a commit in doubt, and of an attempt that was not backed out for a failed call.
     ensures counts { (script : Script) (candidates : Option (List Candidate)) → is_run (map string_bytes words.now) ≡ true → IsScriptOf script (take read_limit (S.rest source.old))
         → IsTrue (S.tells source.old) → DevicesTell D.tells bay → Opens D.held script bay candidates
         → OnceSwitched (λ opened. CountsFailures D.held D.faults script candidates result.0 opened result.1 (IsTrue (K.tells sink.old)) (K.given sink.old) (K.given sink.new)) bay }
 
     // The law of the output: a script prints, action by action, what the node's state and the list and the map ask for that its devices
     // stand for; and however the call ends, whatever a crash then leaves of the devices stands for a list and a map that the law allows, unless the last
-    // format that was begun was not whole. A run that ends the script leaves an item in flight only where the device of the monitor trail has failed in it. The law is told of whatever the devices that are handed in may stand for; of others `candidates` is none, and what they
+    // format that was begun was not whole. The law is told of whatever the devices that are handed in may stand for; of others `candidates` is none, and what they
     // stand for is known from the first whole format on.
     ensures told { (script : Script) (candidates : Option (List Candidate)) → is_run (map string_bytes words.now) ≡ true → IsScriptOf script (take read_limit (S.rest source.old))
         → IsTrue (S.tells source.old) → DevicesTell D.tells bay → Opens D.held script bay candidates
         → OnceSwitched (λ opened. TellsBy D.held D.faults script candidates result.0 opened result.1 (IsTrue (K.tells sink.old)) (K.given sink.old) (K.given sink.new)) bay }
 
-    // The same over any devices, also those that do not tell what they hold, as the files of a folder: action by action a script prints what the node's state allows. The outcomes of a run on threads are those of one
-    // history; those of a single run are its items' on some map, each with its identifier and place; and a line that tells of a failed device has that failure for its cause, no device more often than it failed.
+    // The same over any devices, also those that do not tell what they hold, as the files of a folder: action by action a script prints what the node's state allows. The outcomes of a run are those of one
+    // history; and a line that tells of a failed device has that failure for its cause, no device more often than it failed.
     ensures prints { (script : Script) → is_run (map string_bytes words.now) ≡ true → IsScriptOf script (take read_limit (S.rest source.old)) → IsTrue (S.tells source.old)
         → OnceSwitched (λ opened. PrintsBy D.Disk script.config script.actions result.0 opened result.1 (IsTrue (K.tells sink.old)) (K.given sink.old) (K.given sink.new)) bay }
 
-    // So also where the source does not tell its text, as standard input: with status 0, 4 or 6 the actions are those of some valid script. Of status 2, with which actions may have been carried
+    // So also where the source does not tell its text, as standard input: with status 0 or 4 the actions are those of some valid script. Of status 2, with which actions may have been carried
     // out too, this says nothing.
     ensures prints_some { is_run (map string_bytes words.now) ≡ true → IsPlayed result.0 → PrintsOfSome D.Disk result.0 bay result.1 (IsTrue (S.tells source.old)) (take read_limit (S.rest source.old)) (IsTrue (K.tells sink.old)) (K.given sink.old) (K.given sink.new) }
 
-    // Of a script that formats first, and whose runs are single, where no device fails and the status is 0, the output is the one that the script determines, whatever devices were handed in.
+    // Of a script that formats first, and whose runs are single, where no device fails, the status is 0, and no line tells of a limit or of want of memory, the output is the one that the script determines, whatever
+    // devices were handed in. A run is single that has one worker or none, and transactions alone.
     ensures one_output { (script : Script) → is_run (map string_bytes words.now) ≡ true → IsScriptOf script (take read_limit (S.rest source.old)) → IsTrue (S.tells source.old) → IsTrue (K.tells sink.old)
-        → DevicesTell D.tells bay → FormatsFirst script → AreSingle script.config script.actions → NoneRose D.faults bay result.1 → result.0 ≡ 0 → IsTheOutput D.held D.faults script (K.given sink.old) (K.given sink.new) }
+        → DevicesTell D.tells bay → FormatsFirst script → AreSingle script.actions → NoneRose D.faults bay result.1 → result.0 ≡ 0 → IsTheOutput D.held D.faults script (K.given sink.old) (K.given sink.new) }
 
     // Completeness: where no device fails and the status is 0, and it is known what the devices that are handed in may stand for, or the script formats first, none of the lines that were
     // given tells of a fault: each action was carried out, or refused for what the node and its devices are, and each attempt of a run ended in a way that has no fault for its cause.
@@ -247,8 +214,7 @@ pub fn tmf<R: Threads + Wait + Sync, S: Source, K: Sink, D: Disk + Send>(
         → IsTrue (K.tells sink.old) → DevicesTell D.tells bay → Opens D.held script bay candidates → IsKnown candidates ⊎ FormatsFirst script → NoneRose D.faults bay result.1 → result.0 ≡ 0
         → IsFaultlessOutput (K.given sink.old) (K.given sink.new) }
 
-    // Of words that ask for no bank run: a script is carried out, any other text is refused; and each status has its cause and its lines. Status 2 is want of memory, or a run that was refused since a disc's
-    // positions are spent or a file's records have no room, as the law of the output says of the run in which the script ended.
+    // Of words that ask for no bank run: a script is carried out, any other text is refused; and each status has its cause and its lines. Status 2 is want of memory.
     ensures text { bank_of (map string_bytes words.now) ≡ None → IsTrue (S.tells source.old) → AnswersText S.Source K.Sink D.Disk (are_accepted (map string_bytes words.now)) result.0 source.old source.new sink.old sink.new bay result.1 }
     ensures status { bank_of (map string_bytes words.now) ≡ None → HasStatus S.Source K.Sink (are_accepted (map string_bytes words.now)) result.0 source.old source.new sink.old sink.new bay result.1 }
 
@@ -270,6 +236,7 @@ pub fn tmf<R: Threads + Wait + Sync, S: Source, K: Sink, D: Disk + Send>(
         let (status, bay) = run_bank(means, transfers, sink, bay);
         return (status.code(), bay);
     }
+    one_run_law();
     let (status, bay) = run_script(means, source, sink, bay);
     (status.code(), bay)
 }

@@ -20,64 +20,148 @@ const TWICE_OUTPUT: &str =
 struct Told {
     /// The number of the action in which the call fails.
     action: u8,
-    status: u8,
-    /// The commits that were printed, of which none may be lost.
-    commits: usize,
+    /// The records behind the first Start that a later call finds, and the list that it prints; none behind a format that has failed.
+    left: Option<Left>,
     before: &'static str,
     after: &'static str,
 }
 
-const TOLD: [Told; 7] = [
+/// What the script leaves: its records of the first run with those of the recoveries before the last one, and its list.
+#[derive(Clone, Copy)]
+struct Left {
+    records: &'static str,
+    list: &'static str,
+}
+
+const NOTHING: &str = "listed ACCT 0\n";
+
+const FIRST_ALONE: &str = "ACCT k1 v1\nlisted ACCT 1\n";
+
+const BOTH_LISTED: &str = "ACCT k1 v1\nACCT k2 v2\nlisted ACCT 2\n";
+
+/// No record of an attempt is left.
+const NO_RECORD: Left = Left {
+    records: "1 start 1\n2 start 2\n3 start 3\nrecovered 4\n",
+    list: NOTHING,
+};
+
+/// Calls that fail in a run: before a worker has begun, or for an attempt. Where that of the monitor trail fails, the attempt is in doubt, and its commit may be there.
+const OF_RUNS: [Told; 7] = [
+    Told {
+        action: 1,
+        left: Some(NO_RECORD),
+        before: "formatted\nrun failed ",
+        after: "\n1 start 1\nrecovered 2\n2 start 2\nrecovered 3\nlisted ACCT 0\n",
+    },
+    Told {
+        action: 1,
+        left: Some(NO_RECORD),
+        before: "formatted\n1.1.1.1 indoubt ",
+        after: "\n1.1.2.1 skipped\n1 start 1\nrecovered 2\n2 start 2\nrecovered 3\nlisted ACCT 0\n",
+    },
+    Told {
+        action: 1,
+        left: Some(Left {
+            records: "1 start 1\n2 commit 1.1.1.1\n3 start 2\n4 start 3\nrecovered 4\n",
+            list: FIRST_ALONE,
+        }),
+        before: "formatted\n1.1.1.1 indoubt ",
+        after: "\n1.1.2.1 skipped\n1 start 1\n2 commit 1.1.1.1\nrecovered 2\n3 start 2\nrecovered 3\n\
+            ACCT k1 v1\nlisted ACCT 1\n",
+    },
+    Told {
+        action: 1,
+        left: Some(Left {
+            records: "1 start 1\n2 commit 1.1.1.1\n3 start 2\n4 start 3\nrecovered 4\n",
+            list: FIRST_ALONE,
+        }),
+        before: "formatted\n1.1.1.1 committed 2\n1.1.2.1 indoubt ",
+        after: "\n1 start 1\n2 commit 1.1.1.1\nrecovered 2\n3 start 2\nrecovered 3\n\
+            ACCT k1 v1\nlisted ACCT 1\n",
+    },
+    Told {
+        action: 1,
+        left: Some(Left {
+            records: "1 start 1\n2 commit 1.1.1.1\n3 commit 1.1.2.1\n4 start 2\n5 start 3\nrecovered 4\n",
+            list: BOTH_LISTED,
+        }),
+        before: "formatted\n1.1.1.1 committed 2\n1.1.2.1 indoubt ",
+        after: "\n1 start 1\n2 commit 1.1.1.1\n3 commit 1.1.2.1\nrecovered 2\n4 start 2\nrecovered 3\n\
+            ACCT k1 v1\nACCT k2 v2\nlisted ACCT 2\n",
+    },
+    Told {
+        action: 1,
+        left: Some(Left {
+            records: "1 start 1\n2 abort 1.1.1.1\n3 start 2\n4 start 3\nrecovered 4\n",
+            list: NOTHING,
+        }),
+        before: "formatted\n1.1.1.1 failed ",
+        after: "\n1.1.2.1 skipped\n1 start 1\n2 abort 1.1.1.1\nrecovered 2\n3 start 2\nrecovered 3\n\
+            listed ACCT 0\n",
+    },
+    Told {
+        action: 1,
+        left: Some(Left {
+            records: "1 start 1\n2 commit 1.1.1.1\n3 abort 1.1.2.1\n4 start 2\n5 start 3\nrecovered 4\n",
+            list: FIRST_ALONE,
+        }),
+        before: "formatted\n1.1.1.1 committed 2\n1.1.2.1 failed ",
+        after: "\n1 start 1\n2 commit 1.1.1.1\n3 abort 1.1.2.1\nrecovered 2\n4 start 2\nrecovered 3\n\
+            ACCT k1 v1\nlisted ACCT 1\n",
+    },
+];
+
+/// Both commits stand behind the first Start, and with this one the recovery that failed has left no Start.
+const BOTH_ONCE: Left = Left {
+    records: "1 start 1\n2 commit 1.1.1.1\n3 commit 1.1.2.1\n4 start 2\nrecovered 3\n",
+    list: BOTH_LISTED,
+};
+
+/// With this one it has left one.
+const BOTH_TWICE: Left = Left {
+    records: "1 start 1\n2 commit 1.1.1.1\n3 commit 1.1.2.1\n4 start 2\n5 start 3\nrecovered 4\n",
+    list: BOTH_LISTED,
+};
+
+/// Calls that fail in a format, in a recovery or in a listing. Of the second recovery the output does not tell whether it has left a Start.
+const OF_ACTIONS: [Told; 6] = [
     Told {
         action: 0,
-        status: 0,
-        commits: 0,
+        left: None,
         before: "format failed ",
         after: "\nrun not up\nrecover not up\nrecover not up\nlist ACCT not up\n",
     },
     Told {
-        action: 1,
-        status: 6,
-        commits: 0,
-        before: "formatted\nstopped ",
-        after: " failed\n",
-    },
-    Told {
-        action: 1,
-        status: 6,
-        commits: 1,
-        before: "formatted\n1.1.1.1 committed 2\nstopped ",
-        after: " failed\n",
-    },
-    // The recovery that failed has left no Start, or one.
-    Told {
         action: 2,
-        status: 0,
-        commits: 2,
+        left: Some(BOTH_ONCE),
         before: "formatted\n1.1.1.1 committed 2\n1.1.2.1 committed 3\nrecover failed ",
         after: "\n1 start 1\n2 commit 1.1.1.1\n3 commit 1.1.2.1\nrecovered 2\nACCT k1 v1\n\
             ACCT k2 v2\nlisted ACCT 2\n",
     },
     Told {
         action: 2,
-        status: 0,
-        commits: 2,
+        left: Some(BOTH_TWICE),
         before: "formatted\n1.1.1.1 committed 2\n1.1.2.1 committed 3\nrecover failed ",
         after: "\n1 start 1\n2 commit 1.1.1.1\n3 commit 1.1.2.1\n4 start 2\nrecovered 3\n\
             ACCT k1 v1\nACCT k2 v2\nlisted ACCT 2\n",
     },
     Told {
         action: 3,
-        status: 0,
-        commits: 2,
+        left: Some(BOTH_ONCE),
+        before: "formatted\n1.1.1.1 committed 2\n1.1.2.1 committed 3\n1 start 1\n2 commit 1.1.1.1\n\
+            3 commit 1.1.2.1\nrecovered 2\nrecover failed ",
+        after: "\nlist ACCT not up\n",
+    },
+    Told {
+        action: 3,
+        left: Some(BOTH_TWICE),
         before: "formatted\n1.1.1.1 committed 2\n1.1.2.1 committed 3\n1 start 1\n2 commit 1.1.1.1\n\
             3 commit 1.1.2.1\nrecovered 2\nrecover failed ",
         after: "\nlist ACCT not up\n",
     },
     Told {
         action: 4,
-        status: 0,
-        commits: 2,
+        left: Some(BOTH_TWICE),
         before: "formatted\n1.1.1.1 committed 2\n1.1.2.1 committed 3\n1 start 1\n2 commit 1.1.1.1\n\
             3 commit 1.1.2.1\nrecovered 2\n4 start 2\nrecovered 3\nlist ACCT failed ",
         after: "\n",
@@ -85,69 +169,37 @@ const TOLD: [Told; 7] = [
 ];
 
 /// Nothing has failed.
-const WHOLE: Told = Told {
-    action: 5,
-    status: 0,
-    commits: 2,
-    before: TWICE_OUTPUT,
-    after: "",
-};
+const WHOLE: u8 = 5;
 
-/// The lawful output that this is, where calls of the device of this name fail.
-fn told_by(output: &str, device: &str) -> Option<Told> {
-    if output == TWICE_OUTPUT {
-        return Some(WHOLE);
+/// Whether this is the output.
+fn is_told(told: &Told, output: &str, device: &str) -> bool {
+    let rest = match output.strip_prefix(told.before) {
+        Some(rest) => rest.strip_prefix(device),
+        None => None,
+    };
+    rest == Some(told.after)
+}
+
+/// Whether a later call has found what is left, by its output.
+fn is_found(told: &Told, later: &str) -> bool {
+    match told.left {
+        Some(left) => later.strip_prefix(left.records) == Some(left.list),
+        None => true,
     }
-    for told in TOLD {
-        let rest = match output.strip_prefix(told.before) {
-            Some(rest) => rest.strip_prefix(device),
-            None => None,
-        };
-        if rest == Some(told.after) {
-            return Some(told);
+}
+
+/// The number of the action of these outputs of which one fits both calls.
+fn action_of(tolds: &[Told], output: &str, device: &str, later: &str) -> Option<u8> {
+    for told in tolds {
+        if is_told(told, output, device) && is_found(told, later) {
+            return Some(told.action);
         }
     }
     None
 }
 
-/// The records and the list that a recovery in a later call prints, by how many of the two transactions are committed; between the parts stands the end of the recovery.
-const SURVIVORS: [(&str, &str); 3] = [
-    ("1 start 1\n", "listed ACCT 0\n"),
-    (
-        "1 start 1\n2 commit 1.1.1.1\n",
-        "ACCT k1 v1\nlisted ACCT 1\n",
-    ),
-    (
-        "1 start 1\n2 commit 1.1.1.1\n3 commit 1.1.2.1\n",
-        "ACCT k1 v1\nACCT k2 v2\nlisted ACCT 2\n",
-    ),
-];
-
-/// How a recovery may end, by the recoveries before it that have left their Start.
-const ENDS: [&str; 3] = [
-    "recovered 2\n",
-    "4 start 2\nrecovered 3\n",
-    "4 start 2\n5 start 3\nrecovered 4\n",
-];
-
-/// Whether a later call finds these commits, or one more.
-fn survives(output: &str, commits: usize) -> bool {
-    for (records, list) in SURVIVORS.iter().skip(commits).take(2) {
-        for end in ENDS {
-            let rest = match output.strip_prefix(*records) {
-                Some(rest) => rest.strip_prefix(end),
-                None => None,
-            };
-            if rest == Some(*list) {
-                return true;
-            }
-        }
-    }
-    false
-}
-
-/// Runs the script with these failing calls of the device of this name. What is printed is lawful, and a later call finds what was committed. It answers the number
-/// of the action in which a call has failed.
+/// Runs the script with these failing calls of the device of this name, and a later one over what it leaves. What both print is lawful: no commit that was printed is lost. It answers
+/// the number of the action in which a call has failed.
 fn failing_action<R: Threads + Wait + Sync + Abort>(
     rt: &R,
     alloc: Global,
@@ -157,21 +209,21 @@ fn failing_action<R: Threads + Wait + Sync + Abort>(
 ) -> Result<u8, Fail> {
     let ran = run(rt, alloc, &["run"], TWICE, fails)?;
     let output = printed(alloc, &ran)?;
-    let Some(told) = told_by(&output, name) else {
-        assert_eq!(rt; output.as_str(), TWICE_OUTPUT, "{name}");
-        return Ok(WHOLE.action);
-    };
-    assert_eq!(rt; ran.status, told.status, "{output}");
-    if told.action == WHOLE.action {
-        return Ok(told.action);
+    assert_eq!(rt; ran.status, 0, "{output}");
+    if output.as_str() == TWICE_OUTPUT {
+        return Ok(WHOLE);
     }
     let ran = run_again(rt, alloc, recovery, ran)?;
-    let left = printed(alloc, &ran)?;
-    assert!(rt;
-        ran.status == 0 && (told.action == 0 || survives(&left, told.commits)),
-        "{output}{left}"
-    );
-    Ok(told.action)
+    let later = printed(alloc, &ran)?;
+    assert_eq!(rt; ran.status, 0, "{output}{later}");
+    if let Some(action) = action_of(&OF_RUNS, &output, name, &later) {
+        return Ok(action);
+    }
+    if let Some(action) = action_of(&OF_ACTIONS, &output, name, &later) {
+        return Ok(action);
+    }
+    assert_eq!(rt; output.as_str(), TWICE_OUTPUT, "{later}");
+    Ok(WHOLE)
 }
 
 /// Calls of the device of this name, from one up to another, and the actions in which they are: the first calls in the first of them, then in the next, and so on.
@@ -189,7 +241,7 @@ const MONITOR_CALLS: Calls = Calls {
     name: "MAT",
     from: 0,
     to: NO_MORE,
-    actions: &[0, 1, 2, 3, WHOLE.action],
+    actions: &[0, 1, 2, 3, WHOLE],
 };
 
 const AUDIT_CALLS: Calls = Calls {
@@ -202,7 +254,7 @@ const AUDIT_CALLS: Calls = Calls {
 const VOLUME_CALLS: Calls = Calls {
     device: 5,
     name: "$DATA1",
-    actions: &[0, 1, 2, 3, 4, WHOLE.action],
+    actions: &[0, 1, 2, 3, 4, WHOLE],
     ..MONITOR_CALLS
 };
 
@@ -229,7 +281,7 @@ fn no_commit_is_lost<R: Threads + Wait + Sync + Abort>(
             _ => rest,
         };
         assert!(rt; rest.first() == Some(&action), "{name} at {n} by {choice}");
-        if action == WHOLE.action {
+        if action == WHOLE {
             return Ok(());
         }
     }

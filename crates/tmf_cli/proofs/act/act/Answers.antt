@@ -1,30 +1,20 @@
-use Rattle.std.specs.Prelude.{IfErr, IfOk, MatchResult, None}
-use Rattle.std.proofs.Common.{◌≡◌, [], List, sym, subst}
-use Rattle.tmf_model.specs.declared.script.Action.{Action}
-use Rattle.tmf_model.specs.declared.script.Action.TheVariants.{Format}
-use Rattle.trail_replay.specs.declared.stop.Stop.{Stop}
-use Rattle.tmf_lines.specs.declared.line.Line.{Line}
-use Rattle.tmf_cli.specs.BetweenActions.{HasDone, HasBroken, LeavesBay, node_of}
+use Rattle.std.specs.Prelude.{IfErr, IfOk, None}
+use Rattle.std.proofs.Common.{◌≡◌, sym, subst}
+use Rattle.tmf_cli.specs.AnyDevices.{Prints}
+use Rattle.tmf_cli.specs.BetweenActions.{HasBroken, HasDone, LeavesBay, node_of}
 use Rattle.tmf_cli.specs.Countdown.{kill_of}
-use Rattle.tmf_cli.proofs.Acts.{put-done, put-broken}
 use Rattle.tmf_cli.proofs.Countdowns.{leaves-later}
-use Rattle.tmf_cli.specs.AnyDevices.{Halts, Prints}
-use Rattle.tmf_cli.proofs.AnyDevices.{kept-prints, none-halts}
 use Rattle.tmf_cli.proofs.act.act.Goals as goal
 
 pub returns-in-Format-clause-done : goal.returns-in-Format-clause-done
 returns-in-Format-clause-done g c = λ candidates tell knows.
-    let is : c.args.action.now ≡ Format = c.in-Format.is in
-    let H : Action → List Line → Type 0 = λ a lines. HasDone g.D.Disk.held g.D.Disk.faults c.args.config.now a (node_of c.args.state.now candidates) c.args.bay lines c.act_format-made.new.state c.act_format-made.new.bay in
-    put-done (λ v. v.items) c.keep_lines.new.lines.items c.args.lines.now.items (H c.args.action.now) c.act_format-made.result c.keep_lines.result c.keep_lines.ensures
-    (subst (λ a. IfOk c.act_format-made.result (λ v. H a v.items)) (sym is) (c.act_format-made.ensures.done candidates tell))
+    subst (λ a. IfOk c.act_format-made.result (λ v. HasDone g.D.Disk.held g.D.Disk.faults c.args.config.now a (node_of c.args.state.now candidates) c.args.bay v.items c.act_format-made.new.state c.act_format-made.new.bay)) (sym c.in-Format.is)
+    (c.act_format-made.ensures.done candidates tell)
 
 pub returns-in-Format-clause-broken : goal.returns-in-Format-clause-broken
 returns-in-Format-clause-broken g c = λ candidates tell knows.
-    let is : c.args.action.now ≡ Format = c.in-Format.is in
-    let B : Action → List Line → Stop → Type 0 = λ a lines stop. HasBroken g.D.Disk.held g.D.Disk.faults c.args.config.now a (node_of c.args.state.now candidates) c.args.bay lines stop c.act_format-made.new.bay in
-    put-broken (λ v. v.items) c.keep_lines.new.lines.items c.args.lines.now.items (B c.args.action.now) c.act_format-made.result c.keep_lines.result c.keep_lines.ensures c.requires.none
-    (subst (λ a. IfErr c.act_format-made.result (B a [])) (sym is) (c.act_format-made.ensures.broken candidates))
+    subst (λ a. IfErr c.act_format-made.result (λ e. HasBroken g.D.Disk.held g.D.Disk.faults c.args.config.now a (node_of c.args.state.now candidates) c.args.bay c.act_format-made.new.bay)) (sym c.in-Format.is)
+    (c.act_format-made.ensures.broken candidates)
 
 pub returns-in-Format-clause-keeps : goal.returns-in-Format-clause-keeps
 returns-in-Format-clause-keeps g c = leaves-later g.D.Disk c.args.config.now _ c.args.bay c.act_format-made.new.bay c.act_format-made.ensures.keeps c.requires.off c.act_format-made.ensures.others
@@ -46,39 +36,24 @@ returns-in-Lose-clause-keeps g c = leaves-later g.D.Disk c.args.config.now _ c.a
 
 pub returns-in-Format-clause-prints : goal.returns-in-Format-clause-prints
 returns-in-Format-clause-prints g c =
-    let P : Action → List Line → Type 0 = λ a lines. Prints g.D.Disk c.args.config.now a c.args.state.now c.args.bay lines c.act_format-made.new.state c.act_format-made.new.bay in
-    kept-prints g.D.Disk c.args.config.now (λ v. v.items) c.keep_lines.new.lines.items c.args.lines.now.items (P c.args.action.now) (λ why lines. Halts g.D.Disk c.args.config.now why c.args.action.now c.args.state.now c.args.bay lines c.act_format-made.new.bay) c.act_format-made.result c.keep_lines.result c.keep_lines.ensures c.requires.none
-    (none-halts g.D.Disk c.args.config.now c.args.action.now c.args.state.now c.args.bay c.keep_lines.new.lines.items c.act_format-made.new.bay) c.act_format-made.ensures.memory
-    (subst (λ a. IfOk c.act_format-made.result (λ v. P a v.items)) (sym c.in-Format.is) c.act_format-made.ensures.prints)
+    subst (λ a. IfOk c.act_format-made.result (λ v. Prints g.D.Disk c.args.config.now a c.args.state.now c.args.bay v.items c.act_format-made.new.state c.act_format-made.new.bay)) (sym c.in-Format.is) c.act_format-made.ensures.prints
 
 pub returns-in-Recover-clause-prints : goal.returns-in-Recover-clause-prints
 returns-in-Recover-clause-prints g c =
-    let P : Action → List Line → Type 0 = λ a lines. Prints g.D.Disk c.args.config.now a c.args.state.now c.args.bay lines c.act_recover-made.new.state c.act_recover-made.new.bay in
-    kept-prints g.D.Disk c.args.config.now (λ v. v.items) c.keep_lines-in-Recover.new.lines.items c.args.lines.now.items (P c.args.action.now) (λ why lines. Halts g.D.Disk c.args.config.now why c.args.action.now c.args.state.now c.args.bay lines c.act_recover-made.new.bay) c.act_recover-made.result c.keep_lines-in-Recover.result c.keep_lines-in-Recover.ensures c.requires.none
-    (none-halts g.D.Disk c.args.config.now c.args.action.now c.args.state.now c.args.bay c.keep_lines-in-Recover.new.lines.items c.act_recover-made.new.bay) c.act_recover-made.ensures.memory
-    (subst (λ a. IfOk c.act_recover-made.result (λ v. P a v.items)) (sym c.in-Recover.is) c.act_recover-made.ensures.prints)
+    subst (λ a. IfOk c.act_recover-made.result (λ v. Prints g.D.Disk c.args.config.now a c.args.state.now c.args.bay v.items c.act_recover-made.new.state c.act_recover-made.new.bay)) (sym c.in-Recover.is) c.act_recover-made.ensures.prints
 
 pub returns-in-List-clause-prints : goal.returns-in-List-clause-prints
 returns-in-List-clause-prints g c =
-    let P : Action → List Line → Type 0 = λ a lines. Prints g.D.Disk c.args.config.now a c.args.state.now c.args.bay lines c.args.state.now c.act_list-made.new.bay in
-    kept-prints g.D.Disk c.args.config.now (λ v. v.items) c.keep_lines-in-List.new.lines.items c.args.lines.now.items (P c.args.action.now) (λ why lines. Halts g.D.Disk c.args.config.now why c.args.action.now c.args.state.now c.args.bay lines c.act_list-made.new.bay) c.act_list-made.result c.keep_lines-in-List.result c.keep_lines-in-List.ensures c.requires.none
-    (none-halts g.D.Disk c.args.config.now c.args.action.now c.args.state.now c.args.bay c.keep_lines-in-List.new.lines.items c.act_list-made.new.bay) c.act_list-made.ensures.memory
-    (subst (λ a. IfOk c.act_list-made.result (λ v. P a v.items)) (sym c.in-List.is) c.act_list-made.ensures.prints)
+    subst (λ a. IfOk c.act_list-made.result (λ v. Prints g.D.Disk c.args.config.now a c.args.state.now c.args.bay v.items c.args.state.now c.act_list-made.new.bay)) (sym c.in-List.is) c.act_list-made.ensures.prints
 
 pub returns-in-Lose-clause-prints : goal.returns-in-Lose-clause-prints
 returns-in-Lose-clause-prints g c =
-    let P : Action → List Line → Type 0 = λ a lines. Prints g.D.Disk c.args.config.now a c.args.state.now c.args.bay lines c.act_lose-made.new.state c.act_lose-made.new.bay in
-    kept-prints g.D.Disk c.args.config.now (λ v. v.items) c.keep_lines-in-Lose.new.lines.items c.args.lines.now.items (P c.args.action.now) (λ why lines. Halts g.D.Disk c.args.config.now why c.args.action.now c.args.state.now c.args.bay lines c.act_lose-made.new.bay) c.act_lose-made.result c.keep_lines-in-Lose.result c.keep_lines-in-Lose.ensures c.requires.none
-    (none-halts g.D.Disk c.args.config.now c.args.action.now c.args.state.now c.args.bay c.keep_lines-in-Lose.new.lines.items c.act_lose-made.new.bay) c.act_lose-made.ensures.memory
-    (subst (λ a. IfOk c.act_lose-made.result (λ v. P a v.items)) (sym c.in-Lose.is) c.act_lose-made.ensures.prints)
+    subst (λ a. IfOk c.act_lose-made.result (λ v. Prints g.D.Disk c.args.config.now a c.args.state.now c.args.bay v.items c.act_lose-made.new.state c.act_lose-made.new.bay)) (sym c.in-Lose.is) c.act_lose-made.ensures.prints
 
 pub returns-in-Rollforward-clause-prints : goal.returns-in-Rollforward-clause-prints
 returns-in-Rollforward-clause-prints g c =
-    let P : Action → List Line → Type 0 = λ a lines. Prints g.D.Disk c.args.config.now a c.args.state.now c.args.bay lines c.act_rollforward-made.new.state c.act_rollforward-made.new.bay in
-    kept-prints g.D.Disk c.args.config.now (λ v. v.items) c.keep_lines-in-Rollforward.new.lines.items c.args.lines.now.items (P c.args.action.now) (λ why lines. Halts g.D.Disk c.args.config.now why c.args.action.now c.args.state.now c.args.bay lines c.act_rollforward-made.new.bay) c.act_rollforward-made.result c.keep_lines-in-Rollforward.result c.keep_lines-in-Rollforward.ensures c.requires.none
-    (none-halts g.D.Disk c.args.config.now c.args.action.now c.args.state.now c.args.bay c.keep_lines-in-Rollforward.new.lines.items c.act_rollforward-made.new.bay) c.act_rollforward-made.ensures.memory
-    (subst (λ a. IfOk c.act_rollforward-made.result (λ v. P a v.items)) (sym c.in-Rollforward.is) c.act_rollforward-made.ensures.prints)
+    subst (λ a. IfOk c.act_rollforward-made.result (λ v. Prints g.D.Disk c.args.config.now a c.args.state.now c.args.bay v.items c.act_rollforward-made.new.state c.act_rollforward-made.new.bay)) (sym c.in-Rollforward.is) c.act_rollforward-made.ensures.prints
 
 pub returns-in-Run-clause-prints : goal.returns-in-Run-clause-prints
 returns-in-Run-clause-prints g c =
-    subst (λ a. MatchResult c.act_run.result.0 (λ _. Prints g.D.Disk c.args.config.now a c.args.state.now c.args.bay c.act_run.new.lines.items c.act_run.new.state c.act_run.result.1) (λ why. Halts g.D.Disk c.args.config.now why a c.args.state.now c.args.bay c.act_run.new.lines.items c.act_run.result.1)) (sym c.in-Run.is) c.act_run.ensures.prints
+    subst (λ a. IfOk c.act_run.result.0 (λ v. Prints g.D.Disk c.args.config.now a c.args.state.now c.args.bay v.items c.act_run.new.state c.act_run.result.1)) (sym c.in-Run.is) c.act_run.ensures.prints

@@ -1,14 +1,12 @@
-use Rattle.std.specs.Prelude.{Err, None, MatchResult}
+use Rattle.std.specs.Prelude.{Err, None, IfOk}
 use Rattle.std.proofs.Common.{◌≡◌, [], ◌∷◌, refl, sym, ap, subst, ◌∙◌, inl, inr}
 use Rattle.tmf_model.specs.declared.script.Action.TheVariants.{Format}
-use Rattle.one_worker.specs.declared.stop.RunError.TheVariants as run
-use Rattle.trail_replay.specs.declared.stop.Stop.TheVariants.{NoMemory}
 use Rattle.tmf_lines.specs.declared.line.Line.TheVariants.{Formatted}
 use Rattle.tmf_cli.specs.BetweenActions.{HasDone, Knows, node_of}
 use Rattle.tmf_lines.specs.Report.{format_failure}
 use Rattle.tmf_cli.specs.OutputLaw.{formatted_node, unformatted_node}
 use Rattle.disk_model.specs.Devices.{held_at}
-use Rattle.tmf_cli.proofs.Acts.{formatted-knows, if-ok}
+use Rattle.tmf_cli.proofs.Acts.{formatted-knows, ok-so}
 use Rattle.tmf_cli.proofs.Bays.{held-is}
 use Rattle.tmf_cli.proofs.Dumps.{dumps-formatted}
 use Rattle.tmf_cli.specs.AnyDevices.{Prints}
@@ -21,8 +19,8 @@ returns-in-Ok-clause-done g c = λ candidates tell.
     let knows : Knows g.D.Disk.held c.args.config.now formatted_node new =
     formatted-knows g.D.Disk.held c.args.config.now c.args.bay.now new c.requires.valid c.spelled_volume_law.ensures.fine c.one_spelling.ensures.spelled (λ images are. (c.in-Ok.ensures.stands tell images are).0)
     rests.0 rests.1 (c.in-Ok.ensures.made tell) in
-    if-ok (λ lines. lines.items ≡ Formatted ∷ []) (λ lines. HasDone g.D.Disk.held g.D.Disk.faults c.args.config.now Format (node_of c.args.state.now candidates) c.args.bay.now lines.items c.formatted.result new)
-    (λ stop. stop ≡ NoMemory) (λ stop. Unit {0}) c.one_line.result c.one_line.ensures
+    ok-so (λ lines. lines.items ≡ Formatted ∷ []) (λ lines. HasDone g.D.Disk.held g.D.Disk.faults c.args.config.now Format (node_of c.args.state.now candidates) c.args.bay.now lines.items c.formatted.result new)
+    c.one_line.result c.one_line.ensures
     (λ lines is. record {
       candidates = formatted_node.candidates;
       does = inl (is, ap (λ s. node_of s formatted_node.candidates) c.formatted.ensures, dumps-formatted g.D.Disk.held c.args.config.now new (c.in-Ok.ensures.made tell));
@@ -34,10 +32,10 @@ returns-in-Err-Failed-clause-done g c = λ candidates tell.
     let new = c.format_node.new.bay in
     let device = c.in-Err-Failed.device in
     let cause = c.format_node.ensures.cause device (c.in-Err-Failed.is ∙ ap Err c.in-Err-Failed.field-0-is) in
-    if-ok (λ lines. lines.items ≡ format_failure c.args.config.now device ∷ [])
+    ok-so (λ lines. lines.items ≡ format_failure c.args.config.now device ∷ [])
     (λ lines. HasDone g.D.Disk.held g.D.Disk.faults c.args.config.now Format (node_of c.args.state.now candidates) c.args.bay.now lines.items c.unformatted.result new)
-    (λ stop. stop ≡ NoMemory) (λ stop. Unit {0}) c.one_line-in-Err-Failed.result
-    (subst (λ line. MatchResult c.one_line-in-Err-Failed.result (λ lines. lines.items ≡ line ∷ []) (λ stop. stop ≡ NoMemory)) c.format_failure.ensures c.one_line-in-Err-Failed.ensures)
+    c.one_line-in-Err-Failed.result
+    (subst (λ line. IfOk c.one_line-in-Err-Failed.result (λ lines. lines.items ≡ line ∷ [])) c.format_failure.ensures c.one_line-in-Err-Failed.ensures)
     (λ lines is. record {
       candidates = None;
       does = inr ((device, cause, is), ap (λ s. node_of s None) c.unformatted.ensures);
@@ -45,18 +43,18 @@ returns-in-Err-Failed-clause-done g c = λ candidates tell.
     })
 
 pub returns-in-Err-NoMemory-clause-broken : goal.returns-in-Err-NoMemory-clause-broken
-returns-in-Err-NoMemory-clause-broken g c = λ candidates. record { after = unformatted_node (node_of c.args.state.now candidates); due = []; why = run.Stopped NoMemory; ends = tt; breaks = (refl, refl, refl); made = inl refl; stands = tt; run = inl refl; undamaged = tt }
+returns-in-Err-NoMemory-clause-broken g c = λ candidates. record { after = unformatted_node (node_of c.args.state.now candidates); due = []; breaks = (refl, refl); stands = tt }
 
 pub returns-in-Ok-clause-prints : goal.returns-in-Ok-clause-prints
 returns-in-Ok-clause-prints g c =
-    if-ok (λ lines. lines.items ≡ Formatted ∷ []) (λ lines. Prints g.D.Disk c.args.config.now Format c.args.state.now c.args.bay.now lines.items c.formatted.result c.format_node.new.bay)
-    (λ stop. stop ≡ NoMemory) (λ stop. Unit {0}) c.one_line.result c.one_line.ensures (λ lines is. inl (is, c.formatted.ensures))
+    ok-so (λ lines. lines.items ≡ Formatted ∷ []) (λ lines. Prints g.D.Disk c.args.config.now Format c.args.state.now c.args.bay.now lines.items c.formatted.result c.format_node.new.bay)
+    c.one_line.result c.one_line.ensures (λ lines is. inl (is, c.formatted.ensures))
 
 pub returns-in-Err-Failed-clause-prints : goal.returns-in-Err-Failed-clause-prints
 returns-in-Err-Failed-clause-prints g c =
     let device = c.in-Err-Failed.device in
     let cause = c.format_node.ensures.cause device (c.in-Err-Failed.is ∙ ap Err c.in-Err-Failed.field-0-is) in
-    if-ok (λ lines. lines.items ≡ format_failure c.args.config.now device ∷ []) (λ lines. Prints g.D.Disk c.args.config.now Format c.args.state.now c.args.bay.now lines.items c.unformatted.result c.format_node.new.bay)
-    (λ stop. stop ≡ NoMemory) (λ stop. Unit {0}) c.one_line-in-Err-Failed.result
-    (subst (λ line. MatchResult c.one_line-in-Err-Failed.result (λ lines. lines.items ≡ line ∷ []) (λ stop. stop ≡ NoMemory)) c.format_failure.ensures c.one_line-in-Err-Failed.ensures)
+    ok-so (λ lines. lines.items ≡ format_failure c.args.config.now device ∷ []) (λ lines. Prints g.D.Disk c.args.config.now Format c.args.state.now c.args.bay.now lines.items c.unformatted.result c.format_node.new.bay)
+    c.one_line-in-Err-Failed.result
+    (subst (λ line. IfOk c.one_line-in-Err-Failed.result (λ lines. lines.items ≡ line ∷ [])) c.format_failure.ensures c.one_line-in-Err-Failed.ensures)
     (λ lines is. inr ((device, cause, is), c.unformatted.ensures))

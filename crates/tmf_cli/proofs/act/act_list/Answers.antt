@@ -2,11 +2,10 @@ use Rattle.std.specs.Prelude.{Err}
 use Rattle.std.proofs.Common.{rules, ◌≡◌, [], ◌∷◌, inl, inr, refl, ap, ◌∙◌}
 use Rattle.tmf_model.specs.declared.script.Action.TheVariants.{List as ListAction}
 use Rattle.disk_model.specs.Devices.{held_at}
-use Rattle.trail_replay.specs.declared.stop.Stop.TheVariants.{NoMemory}
 use Rattle.tmf_cli.specs.BetweenActions.{HasDone, node_of}
 use Rattle.tmf_lines.specs.Report.{listed_lines}
 use Rattle.tmf_cli.specs.Lost.{up_with}
-use Rattle.tmf_cli.proofs.Acts.{broken-listing, listed-done, unlisted-done, if-ok, some-found}
+use Rattle.tmf_cli.proofs.Acts.{broken-listing, listed-done, unlisted-done, ok-so, some-found}
 use Rattle.tmf_cli.proofs.Bays.{held-is}
 use Rattle.tmf_cli.proofs.Resting.{list-others}
 use Rattle.tmf_cli.specs.AnyDevices.{Prints}
@@ -14,11 +13,11 @@ use Rattle.tmf_cli.proofs.act.act_list.Goals as goal
 
 pub returns-in_err-listing_lines-in-Ok-clause-broken : goal.returns-in_err-listing_lines-in-Ok-clause-broken
 returns-in_err-listing_lines-in-Ok-clause-broken g c = λ candidates tell knows.
-    broken-listing g.D.Disk.held g.D.Disk.faults c.args.config.now c.args.file c.args.state candidates c.args.bay.now c.list_file.new.bay c.list_file.ensures.same c.from_residual.result (search rules) knows
+    broken-listing g.D.Disk.held g.D.Disk.faults c.args.config.now c.args.file c.args.state candidates c.args.bay.now c.list_file.new.bay c.list_file.ensures.same c.from_residual.result knows
 
 pub returns-in_err-line-in-Err-clause-broken : goal.returns-in_err-line-in-Err-clause-broken
 returns-in_err-line-in-Err-clause-broken g c = λ candidates tell knows.
-    broken-listing g.D.Disk.held g.D.Disk.faults c.args.config.now c.args.file c.args.state candidates c.args.bay.now c.list_file.new.bay c.list_file.ensures.same c.from_residual-in_err-line-in-Err.result (search rules) knows
+    broken-listing g.D.Disk.held g.D.Disk.faults c.args.config.now c.args.file c.args.state candidates c.args.bay.now c.list_file.new.bay c.list_file.ensures.same c.from_residual-in_err-line-in-Err.result knows
 
 pub returns-in_ok-listing_lines-in-Ok-clause-done : goal.returns-in_ok-listing_lines-in-Ok-clause-done
 returns-in_ok-listing_lines-in-Ok-clause-done g c = λ candidates tell knows.
@@ -34,16 +33,16 @@ returns-in_ok-listing_lines-in-Ok-clause-done g c = λ candidates tell knows.
 pub returns-in_ok-line-in-Err-clause-done : goal.returns-in_ok-line-in-Err-clause-done
 returns-in_ok-line-in-Err-clause-done g c = λ candidates tell knows.
     let held = held_at g.D.Disk.held c.args.bay.now in
-    if-ok (λ lines. lines.items ≡ c.in_ok-line-in-Err.line ∷ [])
+    ok-so (λ lines. lines.items ≡ c.in_ok-line-in-Err.line ∷ [])
     (λ lines. HasDone g.D.Disk.held g.D.Disk.faults c.args.config.now (ListAction c.args.file) (node_of c.args.state candidates) c.args.bay.now lines.items c.args.state c.list_file.new.bay)
-    (λ stop. stop ≡ NoMemory) (λ stop. Unit {0}) c.one_line-in-Err.result c.one_line-in-Err.ensures
+    c.one_line-in-Err.result c.one_line-in-Err.ensures
     (λ lines one. unlisted-done g.D.Disk.held g.D.Disk.faults c.args.config.now c.args.file c.args.state candidates c.args.bay.now c.list_file.new.bay c.list_file.ensures.same c.requires.valid c.requires.declared
     (some-found c.up_with.result (up_with c.args.config.now c.args.file c.args.state) c.up_with.ensures (search rules)) knows c.in-Err.error c.in_ok-line-in-Err.line lines.items c.in_ok-line-in-Err.ensures
     (λ number e. c.list_file.ensures.cause number (c.in-Err.is ∙ ap Err e)) (c.in-Err.ensures.told held tell (held-is g.D.Disk.held c.args.bay.now)) one)
 
 pub returns-in_ok-line-in-Err-clause-broken : goal.returns-in_ok-line-in-Err-clause-broken
 returns-in_ok-line-in-Err-clause-broken g c = λ candidates tell knows.
-    broken-listing g.D.Disk.held g.D.Disk.faults c.args.config.now c.args.file c.args.state candidates c.args.bay.now c.list_file.new.bay c.list_file.ensures.same c.one_line-in-Err.result (search rules) knows
+    broken-listing g.D.Disk.held g.D.Disk.faults c.args.config.now c.args.file c.args.state candidates c.args.bay.now c.list_file.new.bay c.list_file.ensures.same c.one_line-in-Err.result knows
 
 pub returns-in_err-listing_lines-in-Ok-clause-others : goal.returns-in_err-listing_lines-in-Ok-clause-others
 returns-in_err-listing_lines-in-Ok-clause-others g c = list-others c.args.config.now c.args.file c.args.bay.now c.list_file.new.bay c.requires.valid c.requires.declared c.list_file.ensures.others
@@ -71,8 +70,8 @@ returns-in_ok-listing_lines-in-Ok-clause-prints g c =
 
 pub returns-in_ok-line-in-Err-clause-prints : goal.returns-in_ok-line-in-Err-clause-prints
 returns-in_ok-line-in-Err-clause-prints g c =
-    if-ok (λ lines. lines.items ≡ c.in_ok-line-in-Err.line ∷ []) (λ lines. Prints g.D.Disk c.args.config.now (ListAction c.args.file) c.args.state c.args.bay.now lines.items c.args.state c.list_file.new.bay)
-    (λ stop. stop ≡ NoMemory) (λ stop. Unit {0}) c.one_line-in-Err.result c.one_line-in-Err.ensures
+    ok-so (λ lines. lines.items ≡ c.in_ok-line-in-Err.line ∷ []) (λ lines. Prints g.D.Disk c.args.config.now (ListAction c.args.file) c.args.state c.args.bay.now lines.items c.args.state c.list_file.new.bay)
+    c.one_line-in-Err.result c.one_line-in-Err.ensures
     (λ lines one. inr (
       some-found c.up_with.result (up_with c.args.config.now c.args.file c.args.state) c.up_with.ensures (search rules),
       refl,

@@ -1,4 +1,4 @@
-use Rattle.std.proofs.Common.{rules, [], ◌∷◌, inl, inr, refl, ap, ◌∙◌}
+use Rattle.std.proofs.Common.{[], ◌∷◌, inl, inr, refl, ap, ◌∙◌}
 use Rattle.tmf_lines.specs.declared.line.Line.TheVariants.{Removed, LoseFailed}
 use Rattle.tmf_cli.specs.OutputLaw.{LeavesLost}
 use Rattle.tmf_cli.proofs.VolumeLoss.{lost-broken, lost-done, lost-others, unlost-done}
@@ -7,11 +7,11 @@ use Rattle.tmf_cli.proofs.act.act_lose.Goals as goal
 
 pub returns-in_err-removed-clause-broken : goal.returns-in_err-removed-clause-broken
 returns-in_err-removed-clause-broken g c = λ candidates tell knows.
-    lost-broken g.D.Disk.held g.D.Disk.faults c.args.config.now c.args.volume c.args.bay.now c.args.state.now candidates c.from_residual.result (search rules) knows
+    lost-broken g.D.Disk.held g.D.Disk.faults c.args.config.now c.args.volume c.args.bay.now c.args.state.now candidates c.from_residual.result knows
 
 pub returns-in_err-failed-clause-broken : goal.returns-in_err-failed-clause-broken
 returns-in_err-failed-clause-broken g c = λ candidates tell knows.
-    lost-broken g.D.Disk.held g.D.Disk.faults c.args.config.now c.args.volume c.args.bay.now c.args.state.now candidates c.from_residual-in_err-failed.result (search rules) knows
+    lost-broken g.D.Disk.held g.D.Disk.faults c.args.config.now c.args.volume c.args.bay.now c.args.state.now candidates c.from_residual-in_err-failed.result knows
 
 pub returns-in-Ok-clause-done : goal.returns-in-Ok-clause-done
 returns-in-Ok-clause-done g c = λ candidates tell knows.

@@ -1,15 +1,16 @@
 use Rattle.std.specs.Prelude.{IfErr, MatchResult, OnOk}
 use Rattle.std.specs.List.{AllByRecursion}
-use Rattle.std.proofs.Common.{rules, ◌≡◌, [], ◌∷◌, ◌++◌, refl, sym, ap, subst, ◌∙◌}
-use Rattle.std.proofs.lemmas.List.{append-nil, append_assoc}
+use Rattle.std.proofs.Common.{◌≡◌, [], ◌∷◌, ◌++◌, refl, sym, ap, subst, ◌∙◌}
+use Rattle.std.proofs.lemmas.List.{append_assoc}
 use Rattle.std.proofs.lemmas.List.Elements.{recursion_from_All}
 use Rattle.tmf_model.specs.Script.{IsValidAction}
+use Rattle.tmf_lines.specs.declared.output.GiveFault.TheVariants.{NoMemory}
 use Rattle.tmf_cli.specs.ActionGiven.{EndsAction}
 use Rattle.tmf_cli.specs.AnyDevices.{EndsPrinting, PrintsAll, first_state}
 use Rattle.tmf_cli.specs.Bank.{HasCollected, HasGathered}
 use Rattle.tmf_cli.specs.BetweenActions.{IsBounded, node_of}
 use Rattle.tmf_cli.proofs.AnyDevices.{prints-more}
-use Rattle.tmf_cli.proofs.Banks.{Collecting, collected-all, collecting-begin, collecting-more, none-left}
+use Rattle.tmf_cli.proofs.Banks.{Collecting, collecting-begin, collecting-more}
 use Rattle.tmf_cli.proofs.Bays.{tell-on}
 use Rattle.tmf_cli.proofs.Countdowns.{leaves-same, leaves-then, none-killed}
 use Rattle.tmf_cli.proofs.Playing.{ends-script}
@@ -38,9 +39,9 @@ returns-in-Err-clause-ended g c = λ candidates tell knows.
     let collecting : Collecting g.D.Disk.held g.D.Disk.faults c.args.config.now candidates c.args.bay done (action ∷ more) c.loop-action.state c.loop-action.bay c.loop-action.lines.items =
     subst (λ rest. Collecting g.D.Disk.held g.D.Disk.faults c.args.config.now candidates c.args.bay done rest c.loop-action.state c.loop-action.bay c.loop-action.lines.items) first (had.collecting candidates tell knows) in
     let ended = c.collect_action-collected.ensures.ended collecting.running.left (tell-on g.D.Disk.tells c.args.bay c.loop-action.bay had.keeps.tells tell) collecting.running.knows in
-    ends-script g.D.Disk.held g.D.Disk.faults c.args.config.now candidates c.args.actions.now done more action c.args.bay c.loop-action.bay c.collect_action-collected.result.1 c.loop-action.state c.in-Err.end
+    ends-script g.D.Disk.held g.D.Disk.faults c.args.config.now candidates c.args.actions.now done more action c.args.bay c.loop-action.bay c.collect_action-collected.result.1 c.loop-action.state NoMemory
     ⊥ [] [] [] collecting.running (had.parts ∙ ap (λ rest. done ++ rest) first)
-    (subst (λ r. IfErr r (λ end. EndsAction g.D.Disk.held g.D.Disk.faults c.args.config.now action (node_of c.loop-action.state collecting.running.left) c.loop-action.bay c.collect_action-collected.result.1 end ⊥ [] [])) c.in-Err.is ended)
+    (subst (λ r. IfErr r (λ _. EndsAction g.D.Disk.held g.D.Disk.faults c.args.config.now action (node_of c.loop-action.state collecting.running.left) c.loop-action.bay c.collect_action-collected.result.1 NoMemory ⊥ [] [])) c.in-Err.is ended)
 
 pub returns-in-Err-clause-keeps : goal.returns-in-Err-clause-keeps
 returns-in-Err-clause-keeps g c =
@@ -67,7 +68,7 @@ loop-action-preserved g c =
             c.args.bay c.loop-action.bay new had.keeps c.collect_action-collected.ensures.keeps;
         printing =
             let next = subst (λ r. MatchResult r (λ _. HasGathered g.D.Disk c.args.config.now action c.loop-action.state c.loop-action.bay c.loop-action.lines.items c.collect_action-collected.new.lines.items c.collect_action-collected.new.state new)
-            (λ end. EndsPrinting g.D.Disk c.args.config.now action c.loop-action.state c.loop-action.bay new end ⊥ [] [])) c.in_default-collected.is c.collect_action-collected.ensures.prints in
+            (λ _. EndsPrinting g.D.Disk c.args.config.now action c.loop-action.state c.loop-action.bay new NoMemory ⊥ [] [])) c.in_default-collected.is c.collect_action-collected.ensures.prints in
             subst (λ ls. PrintsAll g.D.Disk c.args.config.now (done ++ action ∷ []) first_state c.args.bay ls c.collect_action-collected.new.state new) (sym next.behind)
             (prints-more g.D.Disk c.args.config.now done action first_state c.loop-action.state c.collect_action-collected.new.state c.args.bay c.loop-action.bay new c.loop-action.lines.items next.lines had.printing next.prints
             c.collect_action-collected.ensures.keeps.counts);
@@ -83,30 +84,13 @@ loop-action-preserved g c =
       },
     )
 
-pub returns-clause-told : goal.returns-clause-told
-returns-clause-told g c = λ candidates tell knows.
-    let done = c.loop-action.invariant.0 in
-    let had = c.loop-action.invariant.1 in
-    let over = none-left c.loop-action.rest.now c.in_default.ensures.cases in
-    collected-all g.D.Disk.held g.D.Disk.faults c.args.config.now candidates c.args.bay c.args.actions.now done c.loop-action.state c.loop-action.bay c.loop-action.lines.items
-    (had.parts ∙ ap (λ rest. done ++ rest) over ∙ append-nil done)
-    (subst (λ rest. Collecting g.D.Disk.held g.D.Disk.faults c.args.config.now candidates c.args.bay done rest c.loop-action.state c.loop-action.bay c.loop-action.lines.items) over (had.collecting candidates tell knows))
-
-pub returns-clause-prints : goal.returns-clause-prints
-returns-clause-prints g c =
-    let done = c.loop-action.invariant.0 in
-    let had = c.loop-action.invariant.1 in
-    let over = none-left c.loop-action.rest.now c.in_default.ensures.cases in
-    let all = had.parts ∙ ap (λ rest. done ++ rest) over ∙ append-nil done in
-    (c.loop-action.state, subst (λ actions. PrintsAll g.D.Disk c.args.config.now actions first_state c.args.bay c.loop-action.lines.items c.loop-action.state c.loop-action.bay) (sym all) had.printing)
-
 pub returns-in-Err-clause-prints : goal.returns-in-Err-clause-prints
 returns-in-Err-clause-prints g c =
     let had = c.loop-action.invariant.1 in
     let action = c.in-Some.action.now in
     let new = c.collect_action-collected.result.1 in
     let ended = subst (λ r. MatchResult r (λ _. HasGathered g.D.Disk c.args.config.now action c.loop-action.state c.loop-action.bay c.loop-action.lines.items c.collect_action-collected.new.lines.items c.collect_action-collected.new.state new)
-    (λ end. EndsPrinting g.D.Disk c.args.config.now action c.loop-action.state c.loop-action.bay new end ⊥ [] [])) c.in-Err.is c.collect_action-collected.ensures.prints in
+    (λ _. EndsPrinting g.D.Disk c.args.config.now action c.loop-action.state c.loop-action.bay new NoMemory ⊥ [] [])) c.in-Err.is c.collect_action-collected.ensures.prints in
     record {
       reached = record {
         done = c.loop-action.invariant.0;

@@ -1,6 +1,5 @@
 use Rattle.std.specs.Prelude.{IfErr, MatchResult, OnOk}
-use Rattle.std.proofs.Common.{rules, ◌≡◌, ◌⊎◌, ◌++◌, [], IsTrue, refl, sym, ap, subst, ◌∙◌, inl, inr, ⊎_elim, arith}
-use Rattle.disk_model.specs.Devices.{FuseRestarts}
+use Rattle.std.proofs.Common.{rules, ◌≡◌, ◌++◌, [], IsTrue, refl, sym, subst, ◌∙◌, inr}
 use Rattle.tmf_edges.specs.Moves.{AppendsPart}
 use Rattle.tmf_lines.specs.Summary.{summary_text}
 use Rattle.tmf_model.specs.Script.{IsValidScript}
@@ -10,13 +9,11 @@ use Rattle.tmf_cli.specs.AnyDevices.{HavePrinted, PrintsBy}
 use Rattle.tmf_cli.specs.Bank.{CollectsAll, EndsBank, GivesSummary, PrintsBank, TellsBank}
 use Rattle.tmf_cli.specs.Countdown.{IsSwitched, OnceSwitched}
 use Rattle.tmf_cli.specs.Ending.{opening}
-use Rattle.tmf_cli.specs.Single.{NoneSingle}
 use Rattle.tmf_cli.specs.Status.{code_of}
 use Rattle.tmf_cli.specs.Top.{IsStatusCaused, Opens, Tells}
-use Rattle.tmf_cli.proofs.Banks.{bank-done, bank-ended, bank-keeps, bank-leaves, bank-off, bank-others, bank-printed, bank-summed, bank-unbegun, bank-uncut, bank-unsingle, gives-status, none-summed, summed-status}
-use Rattle.tmf_cli.proofs.Countdowns.{once-so, same-length, switched-cuts, switches-same}
+use Rattle.tmf_cli.proofs.Banks.{bank-done, bank-ended, bank-keeps, bank-leaves, bank-off, bank-others, bank-printed, bank-summed, bank-unbegun, bank-uncut, gives-status, none-summed, summed-status}
+use Rattle.tmf_cli.proofs.Countdowns.{once-so, same-length}
 use Rattle.tmf_cli.proofs.Openings.{opens-switched}
-use Rattle.tmf_cli.proofs.Playing.{others-none}
 use Rattle.tmf_cli.proofs.Statuses.{code-sink}
 use Rattle.tmf_cli.proofs.bank.run_bank.Goals as goal
 
@@ -41,14 +38,14 @@ returns-in-Ok-carried g c =
     let valid = subst IsValidScript same c.in-Ok.ensures.valid in
     let prints = subst (λ s. OnceSwitched (λ opened. HavePrinted g.D.Disk s.config s.actions opened lines new) c.args.bay) same
     (subst (λ r. MatchResult r (λ _. OnceSwitched (λ opened. HavePrinted g.D.Disk c.in-Ok.script.config c.in-Ok.script.actions opened lines new) c.args.bay)
-    (λ s. OnceSwitched (λ opened. PrintsBy g.D.Disk c.in-Ok.script.config c.in-Ok.script.actions (code_of s) opened new ⊥ [] []) c.args.bay)) c.in-Ok-carried.is carried.ensures.prints) in
+    (λ _. OnceSwitched (λ opened. PrintsBy g.D.Disk c.in-Ok.script.config c.in-Ok.script.actions 2 opened new ⊥ [] []) c.args.bay)) c.in-Ok-carried.is carried.ensures.prints) in
     record {
       status = summed-status how c.sum_up.ensures.status;
       told = λ candidates tell opens.
           once-so (λ opened. CollectsAll g.D.Disk.held g.D.Disk.faults (bank_script transfers).config (opening candidates) (bank_script transfers).actions opened lines new)
           (λ opened. TellsBank g.D.Disk.held g.D.Disk.faults transfers candidates (code_of how) opened new (IsTrue (g.K.Sink.tells c.args.sink.now)) before after) c.args.bay
           (λ opened switched all. bank-summed g.D.Disk.held g.D.Disk.faults transfers candidates opened new (IsTrue (g.K.Sink.tells c.args.sink.now)) before after lines (code_of how)
-          (opens-switched g.D.Disk.held (bank_script transfers) c.args.bay opened switched candidates opens).stands (sym (same-length IsSwitched c.args.bay opened switched) ∙ carried.ensures.all) all gives)
+          (sym (same-length IsSwitched c.args.bay opened switched) ∙ carried.ensures.all) all gives)
           (subst (λ s. OnceSwitched (λ opened. CollectsAll g.D.Disk.held g.D.Disk.faults s.config (opening candidates) s.actions opened lines new) c.args.bay) same
           (subst (λ r. OnOk r (OnceSwitched (λ opened. CollectsAll g.D.Disk.held g.D.Disk.faults c.in-Ok.script.config (opening candidates) c.in-Ok.script.actions opened lines new) c.args.bay)) c.in-Ok-carried.is
           (carried.ensures.told candidates tell (subst (λ s. Opens g.D.Disk.held s c.args.bay candidates) (sym same) opens))));
@@ -75,35 +72,32 @@ returns g c =
     let same = c.in-Ok.ensures.script in
     let carried = c.carry_out_bank-carried in
     let new = c.carry_out_bank-carried.result.1 in
-    let how = c.in-Err.status in
-    let two = subst (λ r. IfErr r (λ s. (s ≡ status.NoMemory) ⊎ (s ≡ status.Stopped))) c.in-Err.is carried.ensures.how in
     let sink = g.K.Sink.given c.args.sink.now in
     let met = g.met.D.Disk g.world.𝓛 g.world.𝓜 g.world.𝓡 ((λ s x. x), (λ x. x), (λ x. x), λ x. x) in
     let leaves = bank-leaves g.D.Disk met.same_on met.same_itself transfers c.in-Ok.script c.args.bay new same carried.ensures.keeps in
     record {
-      status = inr (ap code_of (subst (λ r. IfErr r (λ s. s ≡ status.NoMemory)) c.in-Err.is
-          (carried.ensures.unstopped (subst (λ s. NoneSingle s.config s.actions) (sym same) (bank-unsingle transfers)))));
+      status = inr refl;
       told = λ candidates tell opens.
-          once-so (λ opened. Tells g.D.Disk.held g.D.Disk.faults (bank_script transfers) candidates how opened new ⊥ [] [])
-          (λ opened. TellsBank g.D.Disk.held g.D.Disk.faults transfers candidates (code_of how) opened new (IsTrue (g.K.Sink.tells c.args.sink.now)) sink sink) c.args.bay
-          (λ opened switched tells. bank-ended g.D.Disk.held g.D.Disk.faults transfers candidates opened new (IsTrue (g.K.Sink.tells c.args.sink.now)) sink sink how two
-          (opens-switched g.D.Disk.held (bank_script transfers) c.args.bay opened switched candidates opens).stands tells (λ t. refl))
-          (subst (λ s. OnceSwitched (λ opened. Tells g.D.Disk.held g.D.Disk.faults s candidates how opened new ⊥ [] []) c.args.bay) same
-          (subst (λ r. IfErr r (λ s. OnceSwitched (λ opened. Tells g.D.Disk.held g.D.Disk.faults c.in-Ok.script candidates s opened new ⊥ [] []) c.args.bay)) c.in-Err.is
+          once-so (λ opened. Tells g.D.Disk.held g.D.Disk.faults (bank_script transfers) candidates status.NoMemory opened new ⊥ [] [])
+          (λ opened. TellsBank g.D.Disk.held g.D.Disk.faults transfers candidates 2 opened new (IsTrue (g.K.Sink.tells c.args.sink.now)) sink sink) c.args.bay
+          (λ opened switched tells. bank-ended g.D.Disk.held g.D.Disk.faults transfers candidates opened new (IsTrue (g.K.Sink.tells c.args.sink.now)) sink sink
+          (opens-switched g.D.Disk.held (bank_script transfers) c.args.bay opened switched candidates opens).stands tells (λ t. refl {a = sink}))
+          (subst (λ s. OnceSwitched (λ opened. Tells g.D.Disk.held g.D.Disk.faults s candidates status.NoMemory opened new ⊥ [] []) c.args.bay) same
+          (subst (λ r. IfErr r (λ _. OnceSwitched (λ opened. Tells g.D.Disk.held g.D.Disk.faults c.in-Ok.script candidates status.NoMemory opened new ⊥ [] []) c.args.bay)) c.in-Err.is
           (carried.ensures.ended candidates tell (subst (λ s. Opens g.D.Disk.held s c.args.bay candidates) (sym same) opens))));
-      printed = λ summed. absurd (none-summed how two summed);
+      printed = λ summed. absurd (none-summed summed);
       ended = λ memory.
-          once-so (λ opened. PrintsBy g.D.Disk (bank_script transfers).config (bank_script transfers).actions (code_of how) opened new ⊥ [] []) (λ opened. EndsBank g.D.Disk transfers opened new) c.args.bay
-          (λ opened switched prints. (code_of how, inr memory, prints))
-          (subst (λ s. OnceSwitched (λ opened. PrintsBy g.D.Disk s.config s.actions (code_of how) opened new ⊥ [] []) c.args.bay) same
+          once-so (λ opened. PrintsBy g.D.Disk (bank_script transfers).config (bank_script transfers).actions 2 opened new ⊥ [] []) (λ opened. EndsBank g.D.Disk transfers opened new) c.args.bay
+          (λ opened switched prints. (2, inr refl, prints))
+          (subst (λ s. OnceSwitched (λ opened. PrintsBy g.D.Disk s.config s.actions 2 opened new ⊥ [] []) c.args.bay) same
           (subst (λ r. MatchResult r (λ _. OnceSwitched (λ opened. HavePrinted g.D.Disk c.in-Ok.script.config c.in-Ok.script.actions opened carried.new.lines.items new) c.args.bay)
-          (λ s. OnceSwitched (λ opened. PrintsBy g.D.Disk c.in-Ok.script.config c.in-Ok.script.actions (code_of s) opened new ⊥ [] []) c.args.bay)) c.in-Err.is carried.ensures.prints));
-      silent = λ unsummed t. refl;
-      sink_failed = λ four. absurd (none-summed how two (inr four));
+          (λ _. OnceSwitched (λ opened. PrintsBy g.D.Disk c.in-Ok.script.config c.in-Ok.script.actions 2 opened new ⊥ [] []) c.args.bay)) c.in-Err.is carried.ensures.prints));
+      silent = λ unsummed t. refl {a = sink};
+      sink_failed = λ four. absurd (none-summed (inr four));
       keeps_sink = record { tells = refl; later = search rules };
       devices = bank-keeps g.D.Disk met.same_on met.same_itself transfers c.in-Ok.script c.args.bay new leaves;
       others = bank-others g.D.Disk met.same_on met.same_itself transfers c.in-Ok.script c.args.bay new leaves;
       uncut = bank-uncut g.D.Disk met.same_on met.same_itself transfers c.in-Ok.script c.args.bay new leaves;
       off = inr (bank-off g.D.Disk met.same_on met.same_itself transfers c.in-Ok.script c.args.bay new leaves);
-      summed_off = λ summed. absurd (none-summed how two summed);
+      summed_off = λ summed. absurd (none-summed summed);
     }

@@ -1,23 +1,17 @@
 use Rattle.std.specs.Prelude.{IfErr, MatchResult, OnOk}
 use Rattle.std.specs.List.{AllByRecursion}
-use Rattle.std.proofs.Common.{rules, ◌≡◌, [], ◌∷◌, ◌++◌, List, IsTrue, refl, sym, ap, subst, ◌∙◌}
-use Rattle.std.proofs.lemmas.List.{append-nil, append_assoc}
+use Rattle.std.proofs.Common.{rules, ◌≡◌, [], ◌∷◌, ◌++◌, IsTrue, refl, sym, ap, subst, ◌∙◌}
+use Rattle.std.proofs.lemmas.List.{append_assoc}
 use Rattle.std.proofs.lemmas.List.Elements.{recursion_from_All}
-use Rattle.disk_model.proofs.Devices.{rose-after}
 use Rattle.tmf_model.specs.Script.{IsValidAction}
-use Rattle.tmf_lines.specs.declared.line.Line.{Line}
 use Rattle.tmf_cli.specs.AnyDevices.{EndsPrinting, HasPrinted}
 use Rattle.tmf_cli.specs.BetweenActions.{IsBounded, node_of}
-use Rattle.tmf_lines.specs.Line.{lines_text}
 use Rattle.tmf_cli.specs.ActionGiven.{EndsAction, HasPlayed}
-use Rattle.tmf_cli.specs.OutputLaw.{HasFailed}
-use Rattle.tmf_cli.specs.Status.{IsAnyGiven, IsEndCaused}
 use Rattle.tmf_cli.proofs.AnyDevices.{printing-begin, printing-ends, printing-more, printing-whole}
 use Rattle.tmf_cli.proofs.Banks.{none-left}
 use Rattle.tmf_cli.proofs.Bays.{tell-on}
 use Rattle.tmf_cli.proofs.Countdowns.{leaves-same, leaves-then, none-killed}
-use Rattle.tmf_cli.proofs.Playing.{Running, running-begin, running-more, end-caused, ends-script, any-more, sink-then}
-use Rattle.tmf_lines.proofs.LineTexts.{lines_text-more}
+use Rattle.tmf_cli.proofs.Playing.{Running, running-begin, running-more, ends-script, sink-then}
 use Rattle.tmf_cli.proofs.play.play.Goals as goal
 
 pub loop-action-init : goal.loop-action-init
@@ -29,7 +23,6 @@ loop-action-init g c = (
     small = subst (λ s. IsBounded s.up) (sym c.new-state.ensures) tt;
     keeps_sink = record { tells = refl; later = search rules };
     keeps = leaves-same g.D.Disk (g.met.D.Disk g.world.𝓛 g.world.𝓜 g.world.𝓡 ((λ s x. x), (λ x. x), (λ x. x), λ x. x)).same_itself c.args.config.now _ c.args.bay c.requires.off;
-    some = λ ts. ([], sym (append-nil (g.K.Sink.given c.args.sink.now)));
     printing = printing-begin g.D.Disk c.args.config.now c.args.bay (IsTrue (g.K.Sink.tells c.args.sink.now)) (g.K.Sink.given c.args.sink.now) c.new-state.result c.new-state.ensures;
     running = λ candidates tell knows. running-begin g.D.Disk.held g.D.Disk.faults c.args.config.now candidates c.args.bay (IsTrue (g.K.Sink.tells c.args.sink.now)) (g.K.Sink.given c.args.sink.now) c.args.actions.now c.new-state.result c.new-state.ensures knows;
   },
@@ -46,20 +39,12 @@ returns-in-Err-clause-ended g c = λ candidates tell knows.
     subst (λ rest. Running g.D.Disk.held g.D.Disk.faults c.args.config.now candidates c.args.bay (IsTrue (g.K.Sink.tells c.args.sink.now)) (g.K.Sink.given c.args.sink.now) done rest c.loop-action.state c.loop-action.bay (g.K.Sink.given c.loop-action.sink)) first
     (had.running candidates tell knows) in
     let ended = c.play_action-played.ensures.ended running.left (tell-on g.D.Disk.tells c.args.bay c.loop-action.bay had.keeps.tells tell) running.knows in
-    ends-script g.D.Disk.held g.D.Disk.faults c.args.config.now candidates c.args.actions.now done more action c.args.bay c.loop-action.bay c.play_action-played.result.1 c.loop-action.state c.in-Err.end
+    ends-script g.D.Disk.held g.D.Disk.faults c.args.config.now candidates c.args.actions.now done more action c.args.bay c.loop-action.bay c.play_action-played.result.1 c.loop-action.state c.in-Err.fault
     (IsTrue (g.K.Sink.tells c.args.sink.now)) (g.K.Sink.given c.args.sink.now) (g.K.Sink.given c.loop-action.sink) (g.K.Sink.given c.play_action-played.new.sink) running (had.parts ∙ ap (λ rest. done ++ rest) first)
-    (subst (λ r. IfErr r (λ end. EndsAction g.D.Disk.held g.D.Disk.faults c.args.config.now action (node_of c.loop-action.state running.left) c.loop-action.bay c.play_action-played.result.1 end
+    (subst (λ r. IfErr r (λ fault. EndsAction g.D.Disk.held g.D.Disk.faults c.args.config.now action (node_of c.loop-action.state running.left) c.loop-action.bay c.play_action-played.result.1 fault
     (IsTrue (g.K.Sink.tells c.args.sink.now)) (g.K.Sink.given c.loop-action.sink) (g.K.Sink.given c.play_action-played.new.sink))) c.in-Err.is
-    (subst (λ t. IfErr c.play_action-played.result.0 (λ end. EndsAction g.D.Disk.held g.D.Disk.faults c.args.config.now action (node_of c.loop-action.state running.left) c.loop-action.bay c.play_action-played.result.1 end
+    (subst (λ t. IfErr c.play_action-played.result.0 (λ fault. EndsAction g.D.Disk.held g.D.Disk.faults c.args.config.now action (node_of c.loop-action.state running.left) c.loop-action.bay c.play_action-played.result.1 fault
     (IsTrue t) (g.K.Sink.given c.loop-action.sink) (g.K.Sink.given c.play_action-played.new.sink))) had.keeps_sink.tells ended))
-
-pub returns-in-Err-clause-given : goal.returns-in-Err-clause-given
-returns-in-Err-clause-given g c = λ ts.
-    let had = c.loop-action.invariant.1 in
-    let given = had.some ts in
-    let more = subst (λ r. MatchResult r (λ _. (lines : List Line) × (g.K.Sink.given c.play_action-played.new.sink ≡ g.K.Sink.given c.loop-action.sink ++ lines_text lines)) (λ end. IsAnyGiven end (g.K.Sink.given c.loop-action.sink) (g.K.Sink.given c.play_action-played.new.sink))) c.in-Err.is
-    (c.play_action-played.ensures.given (subst IsTrue (sym had.keeps_sink.tells) ts)) in
-    any-more c.in-Err.end (g.K.Sink.given c.args.sink.now) (g.K.Sink.given c.loop-action.sink) (g.K.Sink.given c.play_action-played.new.sink) given.0 given.1 more
 
 pub returns-in-Err-clause-keeps : goal.returns-in-Err-clause-keeps
 returns-in-Err-clause-keeps g c =
@@ -68,20 +53,6 @@ returns-in-Err-clause-keeps g c =
     leaves-then g.D.Disk (g.met.D.Disk g.world.𝓛 g.world.𝓜 g.world.𝓡 ((λ s x. x), (λ x. x), (λ x. x), λ x. x)).same_on c.args.config.now _ _ _ (λ none. none)
     (none-killed c.args.actions.now done c.in-Some.more.now c.in-Some.action.now (had.parts ∙ ap (λ rest. done ++ rest) c.in-Some.ensures.cases.0))
     c.args.bay c.loop-action.bay c.play_action-played.result.1 had.keeps c.play_action-played.ensures.keeps
-
-pub returns-in-Err-clause-keeps_sink : goal.returns-in-Err-clause-keeps_sink
-returns-in-Err-clause-keeps_sink g c = sink-then g.K.Sink c.args.sink.now c.loop-action.sink c.play_action-played.new.sink c.loop-action.invariant.1.keeps_sink c.play_action-played.ensures.keeps_sink
-
-pub returns-in-Err-clause-cause : goal.returns-in-Err-clause-cause
-returns-in-Err-clause-cause g c =
-    let had = c.loop-action.invariant.1 in
-    let new = c.play_action-played.result.1 in
-    end-caused (λ device. HasFailed g.D.Disk.faults c.args.config.now c.loop-action.bay new device) (λ device. HasFailed g.D.Disk.faults c.args.config.now c.args.bay new device) c.in-Err.end
-    (g.K.Sink.faults c.args.sink.now) (g.K.Sink.faults c.loop-action.sink) (g.K.Sink.faults c.play_action-played.new.sink) had.keeps_sink.later
-    (λ device failed. (failed.0, rose-after g.D.Disk.faults c.args.bay c.loop-action.bay new device had.keeps.counts.falls c.play_action-played.ensures.keeps.counts.falls failed.1))
-    (subst (λ r. IfErr r (λ end. IsEndCaused (λ device. HasFailed g.D.Disk.faults c.args.config.now c.loop-action.bay new device) end (g.K.Sink.faults c.loop-action.sink) (g.K.Sink.faults c.play_action-played.new.sink)))
-    c.in-Err.is c.play_action-played.ensures.cause)
-    c.play_action-played.ensures.keeps_sink.later
 
 pub loop-action-preserved : goal.loop-action-preserved
 loop-action-preserved g c =
@@ -98,18 +69,10 @@ loop-action-preserved g c =
         keeps_sink = sink-then g.K.Sink c.args.sink.now c.loop-action.sink c.play_action-played.new.sink had.keeps_sink c.play_action-played.ensures.keeps_sink;
         keeps = leaves-then g.D.Disk (g.met.D.Disk g.world.𝓛 g.world.𝓜 g.world.𝓡 ((λ s x. x), (λ x. x), (λ x. x), λ x. x)).same_on c.args.config.now _ _ _ (λ none. none) (none-killed c.args.actions.now done more action (had.parts ∙ ap (λ rest. done ++ rest) first))
             c.args.bay c.loop-action.bay c.play_action-played.result.1 had.keeps c.play_action-played.ensures.keeps;
-        some = λ ts.
-            let given = had.some ts in
-            let next = subst (λ r. MatchResult r (λ _. (lines : List Line) × (g.K.Sink.given c.play_action-played.new.sink ≡ g.K.Sink.given c.loop-action.sink ++ lines_text lines)) (λ end. IsAnyGiven end (g.K.Sink.given c.loop-action.sink) (g.K.Sink.given c.play_action-played.new.sink))) c.in_default-played.is
-            (c.play_action-played.ensures.given (subst IsTrue (sym had.keeps_sink.tells) ts)) in (
-              given.0 ++ next.0,
-              next.1 ∙ ap (λ b. b ++ lines_text next.0) given.1 ∙ append_assoc (g.K.Sink.given c.args.sink.now) (lines_text given.0) (lines_text next.0)
-                  ∙ ap (λ t. g.K.Sink.given c.args.sink.now ++ t) (sym (lines_text-more given.0 next.0)),
-            );
         printing = printing-more g.D.Disk c.args.config.now c.args.bay (IsTrue (g.K.Sink.tells c.args.sink.now)) (g.K.Sink.given c.args.sink.now) done action c.loop-action.state c.play_action-played.new.state c.loop-action.bay c.play_action-played.result.1 (g.K.Sink.given c.loop-action.sink) (g.K.Sink.given c.play_action-played.new.sink) had.printing
             (subst (λ r. MatchResult r (λ _. HasPrinted g.D.Disk c.args.config.now action c.loop-action.state c.loop-action.bay c.play_action-played.new.state c.play_action-played.result.1 (IsTrue (g.K.Sink.tells c.args.sink.now)) (g.K.Sink.given c.loop-action.sink) (g.K.Sink.given c.play_action-played.new.sink))
-            (λ end. EndsPrinting g.D.Disk c.args.config.now action c.loop-action.state c.loop-action.bay c.play_action-played.result.1 end (IsTrue (g.K.Sink.tells c.args.sink.now)) (g.K.Sink.given c.loop-action.sink) (g.K.Sink.given c.play_action-played.new.sink))) c.in_default-played.is (subst (λ t. MatchResult c.play_action-played.result.0 (λ _. HasPrinted g.D.Disk c.args.config.now action c.loop-action.state c.loop-action.bay c.play_action-played.new.state c.play_action-played.result.1 (IsTrue t) (g.K.Sink.given c.loop-action.sink) (g.K.Sink.given c.play_action-played.new.sink))
-            (λ end. EndsPrinting g.D.Disk c.args.config.now action c.loop-action.state c.loop-action.bay c.play_action-played.result.1 end (IsTrue t) (g.K.Sink.given c.loop-action.sink) (g.K.Sink.given c.play_action-played.new.sink))) had.keeps_sink.tells c.play_action-played.ensures.prints))
+            (λ fault. EndsPrinting g.D.Disk c.args.config.now action c.loop-action.state c.loop-action.bay c.play_action-played.result.1 fault (IsTrue (g.K.Sink.tells c.args.sink.now)) (g.K.Sink.given c.loop-action.sink) (g.K.Sink.given c.play_action-played.new.sink))) c.in_default-played.is (subst (λ t. MatchResult c.play_action-played.result.0 (λ _. HasPrinted g.D.Disk c.args.config.now action c.loop-action.state c.loop-action.bay c.play_action-played.new.state c.play_action-played.result.1 (IsTrue t) (g.K.Sink.given c.loop-action.sink) (g.K.Sink.given c.play_action-played.new.sink))
+            (λ fault. EndsPrinting g.D.Disk c.args.config.now action c.loop-action.state c.loop-action.bay c.play_action-played.result.1 fault (IsTrue t) (g.K.Sink.given c.loop-action.sink) (g.K.Sink.given c.play_action-played.new.sink))) had.keeps_sink.tells c.play_action-played.ensures.prints))
             c.play_action-played.ensures.keeps.counts;
         running = λ candidates tell knows.
             let running : Running g.D.Disk.held g.D.Disk.faults c.args.config.now candidates c.args.bay (IsTrue (g.K.Sink.tells c.args.sink.now)) (g.K.Sink.given c.args.sink.now) done (action ∷ more) c.loop-action.state c.loop-action.bay (g.K.Sink.given c.loop-action.sink) =
@@ -132,11 +95,11 @@ returns-in-Err-clause-prints g c =
     let had = c.loop-action.invariant.1 in
     let action = c.in-Some.action.now in
     let more = c.in-Some.more.now in
-    printing-ends g.D.Disk c.args.config.now c.args.bay c.loop-action.bay c.play_action-played.result.1 (IsTrue (g.K.Sink.tells c.args.sink.now)) (g.K.Sink.given c.args.sink.now) (g.K.Sink.given c.loop-action.sink) (g.K.Sink.given c.play_action-played.new.sink) c.args.actions.now done more action c.loop-action.state c.in-Err.end
+    printing-ends g.D.Disk c.args.config.now c.args.bay c.loop-action.bay c.play_action-played.result.1 (IsTrue (g.K.Sink.tells c.args.sink.now)) (g.K.Sink.given c.args.sink.now) (g.K.Sink.given c.loop-action.sink) (g.K.Sink.given c.play_action-played.new.sink) c.args.actions.now done more action c.loop-action.state c.in-Err.fault
     (had.parts ∙ ap (λ rest. done ++ rest) c.in-Some.ensures.cases.0) had.printing
     (subst (λ r. MatchResult r (λ _. HasPrinted g.D.Disk c.args.config.now action c.loop-action.state c.loop-action.bay c.play_action-played.new.state c.play_action-played.result.1 (IsTrue (g.K.Sink.tells c.args.sink.now)) (g.K.Sink.given c.loop-action.sink) (g.K.Sink.given c.play_action-played.new.sink))
-    (λ end. EndsPrinting g.D.Disk c.args.config.now action c.loop-action.state c.loop-action.bay c.play_action-played.result.1 end (IsTrue (g.K.Sink.tells c.args.sink.now)) (g.K.Sink.given c.loop-action.sink) (g.K.Sink.given c.play_action-played.new.sink))) c.in-Err.is (subst (λ t. MatchResult c.play_action-played.result.0 (λ _. HasPrinted g.D.Disk c.args.config.now action c.loop-action.state c.loop-action.bay c.play_action-played.new.state c.play_action-played.result.1 (IsTrue t) (g.K.Sink.given c.loop-action.sink) (g.K.Sink.given c.play_action-played.new.sink))
-    (λ end. EndsPrinting g.D.Disk c.args.config.now action c.loop-action.state c.loop-action.bay c.play_action-played.result.1 end (IsTrue t) (g.K.Sink.given c.loop-action.sink) (g.K.Sink.given c.play_action-played.new.sink))) had.keeps_sink.tells c.play_action-played.ensures.prints))
+    (λ fault. EndsPrinting g.D.Disk c.args.config.now action c.loop-action.state c.loop-action.bay c.play_action-played.result.1 fault (IsTrue (g.K.Sink.tells c.args.sink.now)) (g.K.Sink.given c.loop-action.sink) (g.K.Sink.given c.play_action-played.new.sink))) c.in-Err.is (subst (λ t. MatchResult c.play_action-played.result.0 (λ _. HasPrinted g.D.Disk c.args.config.now action c.loop-action.state c.loop-action.bay c.play_action-played.new.state c.play_action-played.result.1 (IsTrue t) (g.K.Sink.given c.loop-action.sink) (g.K.Sink.given c.play_action-played.new.sink))
+    (λ fault. EndsPrinting g.D.Disk c.args.config.now action c.loop-action.state c.loop-action.bay c.play_action-played.result.1 fault (IsTrue t) (g.K.Sink.given c.loop-action.sink) (g.K.Sink.given c.play_action-played.new.sink))) had.keeps_sink.tells c.play_action-played.ensures.prints))
     c.play_action-played.ensures.keeps.counts
 
 pub returns-clause-prints : goal.returns-clause-prints

@@ -4,11 +4,9 @@ use Rattle.std.proofs.Common.{◌≡◌, ◌++◌, List, IsTrue}
 use Rattle.tmf_model.specs.declared.script.Action.{Action}
 use Rattle.tmf_model.specs.Script.{IsValidAction}
 use Rattle.disk_model.specs.Devices.{DevicesTell}
-use Rattle.tmf_lines.specs.declared.line.Line.{Line}
 use Rattle.tmf_cli.specs.ActionGiven.{KeepsSink}
 use Rattle.tmf_cli.specs.BetweenActions.{IsBounded, Knows, LeavesBay}
 use Rattle.tmf_cli.specs.Countdown.{NoneKilled}
-use Rattle.tmf_lines.specs.Line.{lines_text}
 use Rattle.tmf_cli.specs.Ending.{opening}
 use Rattle.tmf_cli.specs.OutputLaw.{Candidate}
 use Rattle.tmf_cli.proofs.AnyDevices.{Printing}
@@ -22,7 +20,6 @@ invariant-loop-action g l = (done : List Action) × record {
   small : IsBounded l.state.up;
   keeps_sink : KeepsSink g.K.Sink l.initial.sink l.sink;
   keeps : LeavesBay g.D.Disk l.fn.config (NoneKilled l.fn.actions) l.initial.bay l.bay;
-  some : IsTrue (g.K.Sink.tells l.initial.sink) → (lines : List Line) × (g.K.Sink.given l.sink ≡ g.K.Sink.given l.initial.sink ++ lines_text lines);
   printing : Printing g.D.Disk l.fn.config l.initial.bay (IsTrue (g.K.Sink.tells l.initial.sink)) (g.K.Sink.given l.initial.sink) done l.state l.bay (g.K.Sink.given l.sink);
   running : (candidates : Option (List Candidate)) → DevicesTell g.D.Disk.tells l.initial.bay
       → Knows g.D.Disk.held l.fn.config (opening candidates) l.initial.bay

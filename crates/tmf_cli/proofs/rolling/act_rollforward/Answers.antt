@@ -1,4 +1,4 @@
-use Rattle.std.proofs.Common.{rules, ◌≡◌, [], ◌∷◌, ◌++◌, inl, inr, sym, ap, subst, ◌∙◌}
+use Rattle.std.proofs.Common.{◌≡◌, [], ◌∷◌, ◌++◌, inl, inr, sym, ap, subst, ◌∙◌}
 use Rattle.tmf_lines.specs.declared.line.Line.TheVariants.{Rolled}
 use Rattle.tmf_cli.specs.declared.node.NodeState.{NodeState}
 use Rattle.tmf_cli.specs.BetweenActions.{IsBounded}
@@ -10,8 +10,8 @@ use Rattle.tmf_cli.proofs.rolling.act_rollforward.Goals as goal
 pub returns-in_err-line-in-Err-clause-broken : goal.returns-in_err-line-in-Err-clause-broken
 returns-in_err-line-in-Err-clause-broken g c = λ candidates tell knows.
     let new = c.roll_within.new.bay in
-    let same = unwritten-memory g.D.Disk.held c.args.bay.now new c.in-Err.error c.in_err-line-in-Err.ensures.1 (c.in-Err.ensures.rolled tell).unwritten in
-    unrolled-broken g.D.Disk.held g.D.Disk.faults c.args.config.now c.args.volume c.args.kill c.args.bay.now new c.args.state.now candidates same c.from_residual-in_err-line-in-Err.result (search rules) knows
+    let same = unwritten-memory g.D.Disk.held c.args.bay.now new c.in-Err.error c.in_err-line-in-Err.ensures (c.in-Err.ensures.rolled tell).unwritten in
+    unrolled-broken g.D.Disk.held g.D.Disk.faults c.args.config.now c.args.volume c.args.kill c.args.bay.now new c.args.state.now candidates same c.from_residual-in_err-line-in-Err.result knows
 
 pub returns-in-Ok-clause-done : goal.returns-in-Ok-clause-done
 returns-in-Ok-clause-done g c = λ candidates tell knows.

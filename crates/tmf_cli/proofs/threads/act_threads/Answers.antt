@@ -1,36 +1,35 @@
-use Rattle.std.proofs.Common.{◌≡◌, ◌⊎◌, [], ◌∷◌, inl, inr, sym, ap, subst, ◌∙◌}
+use Rattle.std.proofs.Common.{◌≡◌, ◌⊎◌, ◌∷◌, [], inl, inr, ap, ◌∙◌}
 use Rattle.tmf_model.specs.declared.script.Action.TheVariants.{Run as RunAction}
-use Rattle.trail_replay.specs.declared.stop.Stop.TheVariants.{NoMemory}
 use Rattle.tmf_cli.specs.BetweenActions.{HasBroken, HasDone, node_of}
 use Rattle.tmf_cli.specs.OutputLaw.{down}
 use Rattle.tmf_cli.specs.RunLines.{run_lines}
-use Rattle.tmf_cli.proofs.Acts.{if-err, if-ok}
+use Rattle.tmf_cli.proofs.Acts.{err-so, ok-so}
 use Rattle.tmf_cli.proofs.OnThreads.{threads-done, threads-unmade, unrun-memory, unrun-threads}
 use Rattle.tmf_cli.specs.AnyDevices.{PrintsNoRun, PrintsRun}
 use Rattle.tmf_cli.proofs.AnyDevices.{ran-prints, unrun-prints}
 use Rattle.tmf_cli.proofs.threads.act_threads.Goals as goal
 
 pub returns-in-Ok-run_lines-clause-done : goal.returns-in-Ok-run_lines-clause-done
-returns-in-Ok-run_lines-clause-done g c = λ state candidates may multi tell knows.
-    threads-done g.D.Disk c.args.config.now c.args.phase.now c.args.bay c.run_within-ran.result.1 state c.args.up may multi c.requires.valid c.requires.phase tell c.run_within-ran.result.0 c.run_within-ran.ensures.ran candidates knows c.stands_law.ensures c.in-Ok.outcomes c.in-Ok.is c.telling_law.ensures.ran c.in-Ok-run_lines.lines.items (c.in-Ok-run_lines.ensures ∙ ap (run_lines c.args.config.now) c.as_slice.ensures)
+returns-in-Ok-run_lines-clause-done g c = λ state candidates may tell knows.
+    threads-done g.D.Disk c.args.config.now c.args.phase.now c.args.bay c.run_within-ran.result.1 state c.args.up may c.requires.valid c.requires.phase tell c.run_within-ran.result.0 c.run_within-ran.ensures.ran candidates knows c.row_law.ensures c.single_law.ensures.ran c.no_dump_law.ensures.ran c.in-Ok.outcomes c.in-Ok.is c.telling_law.ensures.ran c.in-Ok-run_lines.lines.items (c.in-Ok-run_lines.ensures ∙ ap (run_lines c.args.config.now) c.as_slice.ensures)
 
 pub returns-in-Ok-clause-broken : goal.returns-in-Ok-clause-broken
-returns-in-Ok-clause-broken g c = λ state candidates may multi tell knows.
-    threads-unmade g.D.Disk c.args.config.now c.args.phase.now c.args.bay c.run_within-ran.result.1 state c.args.up may multi c.requires.valid c.requires.phase tell c.run_within-ran.result.0 c.run_within-ran.ensures.ran candidates knows c.stands_law.ensures c.in-Ok.outcomes c.in-Ok.is c.telling_law.ensures.ran
+returns-in-Ok-clause-broken g c = λ state candidates may tell knows.
+    threads-unmade g.D.Disk c.args.config.now c.args.phase.now c.args.bay c.run_within-ran.result.1 state c.args.up may c.requires.valid c.requires.phase tell c.run_within-ran.result.0 c.run_within-ran.ensures.ran candidates knows c.row_law.ensures c.single_law.ensures.ran c.no_dump_law.ensures.ran c.in-Ok.outcomes c.in-Ok.is c.telling_law.ensures.ran
 
 pub returns-in-Ok-run_line-clause-done : goal.returns-in-Ok-run_line-clause-done
-returns-in-Ok-run_line-clause-done g c = λ state candidates may multi tell knows.
-    if-ok (λ lines. lines.items ≡ c.in-Ok-run_line.line ∷ []) (λ lines. HasDone g.D.Disk.held g.D.Disk.faults c.args.config.now (RunAction c.args.phase.now) (node_of state candidates) c.args.bay lines.items (down state) c.run_within-ran.result.1) (λ stop. stop ≡ NoMemory) (λ stop. Unit {0}) c.one_line.result c.one_line.ensures
-    (λ lines one. unrun-threads g.D.Disk c.args.config.now c.args.phase.now c.args.bay c.run_within-ran.result.1 state c.args.up may multi c.requires.valid c.requires.phase tell c.run_within-ran.result.0 c.run_within-ran.ensures.ran candidates knows c.in-Err.error c.in-Err.is c.undamaged_law.ensures c.telling_law.ensures.not_run c.in-Ok-run_line.line lines.items c.in-Ok-run_line.ensures one)
+returns-in-Ok-run_line-clause-done g c = λ state candidates may tell knows.
+    ok-so (λ lines. lines.items ≡ c.in-Ok-run_line.line ∷ []) (λ lines. HasDone g.D.Disk.held g.D.Disk.faults c.args.config.now (RunAction c.args.phase.now) (node_of state candidates) c.args.bay lines.items (down state) c.run_within-ran.result.1) c.one_line.result c.one_line.ensures
+    (λ lines one. unrun-threads g.D.Disk c.args.config.now c.args.phase.now c.args.bay c.run_within-ran.result.1 state c.args.up may c.requires.valid c.requires.phase tell c.run_within-ran.result.0 c.run_within-ran.ensures.ran candidates knows c.in-Err.error c.in-Err.is c.undamaged_law.ensures c.telling_law.ensures.not_run c.in-Ok-run_line.line lines.items c.in-Ok-run_line.ensures one)
 
 pub returns-in-Ok-run_line-clause-broken : goal.returns-in-Ok-run_line-clause-broken
-returns-in-Ok-run_line-clause-broken g c = λ state candidates may multi tell knows.
-    if-err (λ lines. lines.items ≡ c.in-Ok-run_line.line ∷ []) (λ lines. Unit {0}) (λ stop. stop ≡ NoMemory) (λ stop. HasBroken g.D.Disk.held g.D.Disk.faults c.args.config.now (RunAction c.args.phase.now) (node_of state candidates) c.args.bay [] stop c.run_within-ran.result.1) c.one_line.result c.one_line.ensures
-    (λ stop is. subst (λ s. HasBroken g.D.Disk.held g.D.Disk.faults c.args.config.now (RunAction c.args.phase.now) (node_of state candidates) c.args.bay [] s c.run_within-ran.result.1) (sym is) (unrun-memory g.D.Disk c.args.config.now c.args.phase.now c.args.bay c.run_within-ran.result.1 state c.args.up may multi c.requires.valid c.requires.phase tell c.run_within-ran.result.0 c.run_within-ran.ensures.ran candidates knows c.in-Err.error c.in-Err.is))
+returns-in-Ok-run_line-clause-broken g c = λ state candidates may tell knows.
+    err-so (λ e. HasBroken g.D.Disk.held g.D.Disk.faults c.args.config.now (RunAction c.args.phase.now) (node_of state candidates) c.args.bay c.run_within-ran.result.1) c.one_line.result
+    (λ e. unrun-memory g.D.Disk c.args.config.now c.args.phase.now c.args.bay c.run_within-ran.result.1 state c.args.up may c.requires.valid c.requires.phase tell c.run_within-ran.result.0 c.run_within-ran.ensures.ran candidates knows c.in-Err.error c.in-Err.is)
 
 pub returns-clause-broken : goal.returns-clause-broken
-returns-clause-broken g c = λ state candidates may multi tell knows.
-    subst (λ s. HasBroken g.D.Disk.held g.D.Disk.faults c.args.config.now (RunAction c.args.phase.now) (node_of state candidates) c.args.bay [] s c.run_within-ran.result.1) (sym c.in-Err-run_line.ensures.0) (unrun-memory g.D.Disk c.args.config.now c.args.phase.now c.args.bay c.run_within-ran.result.1 state c.args.up may multi c.requires.valid c.requires.phase tell c.run_within-ran.result.0 c.run_within-ran.ensures.ran candidates knows c.in-Err.error c.in-Err.is)
+returns-clause-broken g c = λ state candidates may tell knows.
+    unrun-memory g.D.Disk c.args.config.now c.args.phase.now c.args.bay c.run_within-ran.result.1 state c.args.up may c.requires.valid c.requires.phase tell c.run_within-ran.result.0 c.run_within-ran.ensures.ran candidates knows c.in-Err.error c.in-Err.is
 
 pub returns-in-Ok-run_lines-clause-prints : goal.returns-in-Ok-run_lines-clause-prints
 returns-in-Ok-run_lines-clause-prints g c = λ state may.
@@ -39,7 +38,7 @@ returns-in-Ok-run_lines-clause-prints g c = λ state may.
 
 pub returns-in-Ok-run_line-clause-prints : goal.returns-in-Ok-run_line-clause-prints
 returns-in-Ok-run_line-clause-prints g c = λ state may.
-    if-ok (λ lines. lines.items ≡ c.in-Ok-run_line.line ∷ [])
+    ok-so (λ lines. lines.items ≡ c.in-Ok-run_line.line ∷ [])
     (λ lines. PrintsRun g.D.Disk c.args.config.now c.args.phase.now state c.args.bay lines.items (down state) c.run_within-ran.result.1 ⊎ PrintsNoRun g.D.Disk c.args.config.now c.args.phase.now state c.args.bay lines.items (down state) c.run_within-ran.result.1)
-    (λ stop. stop ≡ NoMemory) (λ stop. Unit {0}) c.one_line.result c.one_line.ensures
+    c.one_line.result c.one_line.ensures
     (λ lines one. inr (unrun-prints g.D.Disk c.args.config.now c.args.phase.now state c.args.up may c.args.bay c.run_within-ran.result.1 c.run_within-ran.result.0 c.run_within-ran.ensures.ran c.in-Err.error c.in-Err.is c.in-Ok-run_line.line lines.items c.in-Ok-run_line.ensures one))

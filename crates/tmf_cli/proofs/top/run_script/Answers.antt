@@ -54,7 +54,7 @@ returns-in-Ok-clause-prints_some g c = λ played.
 pub returns-in-Ok-clause-text : goal.returns-in-Ok-clause-text
 returns-in-Ok-clause-text g c =
     played-text g.S.Source g.K.Sink g.D.Disk c.in-Ok.script c.carry_out.result.0 c.args.source.now c.script_from.new.source c.args.sink.now c.script_from.new.sink c.carry_out.new.sink c.args.bay c.carry_out.result.1
-    c.in-Ok.ensures.read c.in-Ok.ensures.keeps_sink c.carry_out.ensures.keeps_sink c.carry_out.ensures.cause c.carry_out.ensures.keeps c.carry_out.ensures.stopped c.carry_out.ensures.ends
+    c.in-Ok.ensures.read c.in-Ok.ensures.keeps_sink c.carry_out.ensures.keeps_sink c.carry_out.ensures.cause c.carry_out.ensures.keeps
 
 pub returns-in-Ok-clause-status : goal.returns-in-Ok-clause-status
 returns-in-Ok-clause-status g c =

@@ -64,7 +64,7 @@ returns-clause-one_output g c = λ form words is source sink tell first single n
     let code = code-done s (sym c.code-2.ensures ∙ done) in
     once-any (λ opened. Tells g.D.Disk.held g.D.Disk.faults form None c.run_script-status.result.0 opened c.run_script-status.result.1 (IsTrue (g.K.Sink.tells c.args.sink.now)) (g.K.Sink.given c.args.sink.now) (g.K.Sink.given c.run_script-status.new.sink))
     (IsTheOutput g.D.Disk.held g.D.Disk.faults form (g.K.Sink.given c.args.sink.now) (g.K.Sink.given c.run_script-status.new.sink)) c.args.bay
-    (λ opened switched told. the_output g.D.Disk.held g.D.Disk.faults form opened new (IsTrue (g.K.Sink.tells c.args.sink.now)) (g.K.Sink.given c.args.sink.now) (g.K.Sink.given c.run_script-status.new.sink)
+    (λ opened switched told. the_output g.D.Disk.held g.D.Disk.faults c.one_run_law.ensures (g.met.D.Disk g.world.𝓛 g.world.𝓜 g.world.𝓡 ((λ s x. x), (λ x. x), (λ x. x), λ x. x)).sound form opened new (IsTrue (g.K.Sink.tells c.args.sink.now)) (g.K.Sink.given c.args.sink.now) (g.K.Sink.given c.run_script-status.new.sink)
     sink first single (λ device rose. none device (rose-after g.D.Disk.faults c.args.bay opened new device (switched-falls c.args.bay opened switched g.D.Disk.faults) (whole-falls g.D.Disk.held g.D.Disk.faults form None opened new _ _ _ s code told) rose)) s code told)
     (c.run_script-status.ensures.told form None is source tell (record { stands = tt }))
 
@@ -118,15 +118,12 @@ returns-then-not-accepts-clause-text g c = λ none source.
     let no : are_accepted (map string_bytes c.args.words.now) ≡ false = search rules in
     record {
       script = λ form is. record {
-        complete = λ words tell no_source no_sink no_device. absurd (cc);
+        complete = λ words no_source no_sink. absurd (cc);
         unrefused = λ e. none-read s c.tell.ensures.status (inr (sym c.code.ensures ∙ e));
-        stopped = λ tell e. absurd (none-read s c.tell.ensures.status (inl (inr (inr (sym c.code.ensures ∙ e)))));
-        unkilled = λ words tell no_source no_sink none fails. absurd (cc);
         others = inl (others-none form.config (FuseRestarts g.D.Disk) c.args.bay);
         uncut = λ none. switched-cuts c.args.bay c.args.bay (switches-same c.args.bay);
         off = inl refl;
         played_off = λ e. absurd (none-read s c.tell.ensures.status (inl (subst IsPlayed c.code.ensures e)));
-        stop_line = λ sink e. absurd (none-read s c.tell.ensures.status (inl (inr (inr (sym c.code.ensures ∙ e)))));
       };
       none = λ none. record {
         status = λ words no_source. absurd (cc);
