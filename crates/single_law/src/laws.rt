@@ -1,4 +1,4 @@
-//! What holds of each run on threads that has one worker; and of the records and the dumps of each run.
+//! What holds of each run: of those that have one worker, of the row of its records, and of those that have transactions alone.
 ghost use Rattle.run_standing.specs.Telling.{telling};
 ghost use Rattle.single_law.specs.NoDump.{NoDumpLaw};
 ghost use Rattle.single_law.specs.One.{OneEndLaw, OneRunLaw};

@@ -50,7 +50,7 @@ use Rattle.tmf_cli.specs.BetweenActions.{Knows, HasDone, HasBroken, RestsUp, IfU
 use Rattle.tmf_cli.specs.Lost.{is_lost_volume, lost_flags, up_with}
 use Rattle.tmf_cli.specs.OutputLaw.{Node, Candidate, OneOf, MayStand, OneIsLeft, IsRecoveryLine, IsRefusedFor, ListsOf, StandsAs, after_stop, answer_of, down, formatted_node, stopped_node, with_start}
 use Rattle.tmf_cli.proofs.Bays.{held-is, held-same, images-same}
-use Rattle.tmf_cli.proofs.Dumps.{dumps-recovered}
+use Rattle.tmf_cli.proofs.Dumps.{cleared-recovered, dumps-recovered}
 use Rattle.tmf_cli.proofs.Listings.{undamaged-listing, unlost-listing}
 use Rattle.tmf_cli.proofs.Losses.{kept-lost, label-is, lost-alike, lost-image, none-among, none-flagged, nothing, number-within, unless-some, unless-there}
 use Rattle.tmf_cli.proofs.Resting.{IsFine, IsUndamagedStand, LeavesReady, file-volume, stands-readable, up-ready}
@@ -285,6 +285,7 @@ module _ {D : Type 0} (held : D → Held) (faults : D → ℕ) (config : Config)
             answered = subst (λ r. RecoversWithVolumes held config images (Ok r) new) answer answers;
             left_epoch = subst (λ e. e ≤ 4294967295) has.epoch small;
             dumps = dumps-recovered held config faults old new valid falls images left answers.others;
+            cleared = cleared-recovered held config faults old new valid falls images left answers.others;
             printed = printed ∙ ap (λ (r : Recovered). recovered_lines config state.printed recovered.records r.lost r.epoch) answer;
             stands = whole_may.1;
             state = is ∙ ap (λ (r : Recovered). record { up = Some (record { epoch = r.epoch; lost = lost_flags r.lost }); formatted = state.formatted; printed = max state.printed (length recovered.records) }) answer
@@ -361,7 +362,7 @@ module _ {D : Type 0} (held : D → Held) (faults : D → ℕ) (config : Config)
   broken-listing (Err e) knows = record {
     after = node_of state candidates;
     due = [];
-    breaks = (refl, refl);
+    breaks = (refl, refl, same);
     stands = (knows-same held config old new same (node_of state candidates) knows).stands;
   }
 

@@ -105,6 +105,7 @@ module _ {D : Type 0} (kind : disk.Ghosts D) (config : Config) where
       opened = bay.opened;
       closed = bay.closed;
       on = bay.on;
+      armed = bay.armed;
       off = bay.off;
       outcomes = outcomes;
       ran = subst (λ r. MatchResult r (HasRun (fuse_kind kind) config phase up.epoch bay.opened bay.closed) (HasNotRun (fuse_kind kind) config phase up.epoch bay.opened bay.closed)) is bay.told;
@@ -123,6 +124,7 @@ module _ {D : Type 0} (kind : disk.Ghosts D) (config : Config) where
           opened = bay.opened;
           closed = bay.closed;
           on = bay.on;
+          armed = bay.armed;
           off = bay.off;
           not_run = not;
           exact = subst (IsExact (fuse_kind kind) config phase up.epoch bay.opened) is bay.exact;

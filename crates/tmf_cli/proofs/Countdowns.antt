@@ -1,6 +1,6 @@
 -- The devices of a bay of which the countdown alone was switched, and fuses that were disarmed.
 use Rattle.std.specs.Prelude.{slice_get, Option, Some, None, IsTrue, Result, Ok, Err}
-use Rattle.std.proofs.Common.{suc, false, ◌≡◌, ◌≤◌, ◌++◌, ◌∷◌, [], ℕ, Bool, List, length, refl, sym, ap, subst, ◌∙◌, inl, inr, arith}
+use Rattle.std.proofs.Common.{suc, false, true, ◌≡◌, ◌≤◌, ◌++◌, ◌∷◌, [], ℕ, Bool, List, length, refl, sym, ap, subst, ◌∙◌, inl, inr, arith}
 use Rattle.disk_model.specs.Devices.{AreHeld, AreImages, AreLater, EachFuse, FuseAs, FuseRestarts, HoldSame, KeepTelling, NoneFalls, RoseAt, StayInPlace}
 use Rattle.disk_model.specs.Fuse.{IsSet, KeepsCuts, cuts_of, device_of, fuse_faults, is_armed}
 use Rattle.disk_model.specs.Held.{Held, Leaves}
@@ -16,7 +16,7 @@ use Rattle.volume_recovery.specs.Recovery.{IsUnwritten}
 use Rattle.volume_recovery.specs.VolumeAnswers.{HasRecoveredWithVolumes, RecoversWithVolumes}
 use Rattle.volume_recovery.specs.VolumeLoop.{IsUsed}
 use Rattle.tmf_cli.specs.BetweenActions.{LeavesBay, OthersRestarted, SameOthers}
-use Rattle.tmf_cli.specs.Countdown.{IsOff, IsSwitched, NoneCut, NoneKilled, OnceSwitched, Switches, kill_of}
+use Rattle.tmf_cli.specs.Countdown.{IsOff, IsOn, IsSwitched, NoneCut, NoneKilled, OnceSwitched, Switches, kill_of}
 use Rattle.tmf_cli.proofs.Acts.{others-kept, others-once}
 use Rattle.tmf_cli.proofs.Bays.{each-old, images-same}
 use Rattle.tmf_cli.proofs.Playing.{SwitchedBehind, others-none, others-then}
@@ -55,6 +55,9 @@ SameCuts a b = cuts_of b ≡ cuts_of a
 
 pub set-switches : {D : Type 0} (arms : Bool) (xs ys : List (Fuse D)) → EachFuse (IsSet arms) xs ys → Switches xs ys
 set-switches arms xs ys set = each-weaker (IsSet arms) IsSwitched (λ a b s. (s.device, s.cuts)) xs ys set
+
+pub set-on : {D : Type 0} (xs ys : List (Fuse D)) → EachFuse (IsSet true) xs ys → IsOn ys
+set-on xs ys set = λ n fuse is. (was-at (IsSet true) xs ys n fuse set is).2.armed
 
 pub set-off : {D : Type 0} (xs ys : List (Fuse D)) → EachFuse (IsSet false) xs ys → IsOff ys
 set-off xs ys set = λ n fuse is. (was-at (IsSet false) xs ys n fuse set is).2.armed

@@ -276,12 +276,12 @@ module _ {D : Type 0} (held : D → Held) (faults : D → ℕ) (config : Config)
     breaks-counted : (done : Action) (node after : Node) (old new : List (Fuse D)) (lines : List Line) → NoneFalls faults old new → Breaks held faults config done node old lines after new → IsCounted lines old new
     breaks-counted action.Format node after old new lines falls (none, is) = no-lines lines old new none falls
     breaks-counted (action.Recover kill) node after old new lines falls (none, is) = no-lines lines old new none falls
-    breaks-counted (action.Run phase) node after old new lines falls (inl (not_up, none, is)) = no-lines lines old new none falls
+    breaks-counted (action.Run phase) node after old new lines falls (inl (not_up, none, is, same)) = no-lines lines old new none falls
     breaks-counted (action.Run phase) node after old new lines falls (inr (inl (up, none, is, same))) = no-lines lines old new none falls
     breaks-counted (action.Run phase) node after old new lines falls (inr (inr ran)) = whole-counted phase node after old new lines ran
     breaks-counted (action.Lose volume) node after old new lines falls (none, is, same) = no-lines lines old new none falls
     breaks-counted (action.Rollforward volume kill) node after old new lines falls (none, is, same) = no-lines lines old new none falls
-    breaks-counted (action.List file) node after old new lines falls (none, is) = no-lines lines old new none falls
+    breaks-counted (action.List file) node after old new lines falls (none, is, same) = no-lines lines old new none falls
 
     -- HOW THE SCRIPT ENDED
 

@@ -45,6 +45,15 @@ no-file held image n leaves none f there = subst (λ o. LeavesAt o (Some f)) non
 pub cleared-lost : (held : Held) → IsCleared held → IsSurelyLost held
 cleared-lost held cleared image leaves f there = absurd (no-file held image 1 leaves (cleared 1 (record { above = omega arith; below = omega arith })) f there)
 
+-- no image has a file where there was none
+cleared-image : (held image : Held) → IsCleared held → Leaves held image → IsCleared image
+cleared-image held image cleared leaves file within = of (held file) (image file) (leaves file) (cleared file within)
+  where
+    of : (old new : Option File) → LeavesAt old new → old ≡ None → new ≡ None
+    of None None left is = refl
+    of None (Some f) left is = absurd left
+    of (Some f) new left is = absurd (cc is)
+
 module _ {D : Type 0} (held : D → Held) (config : Config) where
   -- behind a format no file of a dump is there
   pub dumps-formatted : (new : List (Fuse D)) → AreMadeAnew held config new → AreCleared held config new
@@ -58,17 +67,30 @@ module _ {D : Type 0} (held : D → Held) (config : Config) where
   pub dumps-same : (old new : List (Fuse D)) → ((volume : ℕ) → IsDeclared config.volumes volume → held_at held new (dump_device volume) ≡ held_at held old (dump_device volume)) → MakesNoDump held config old new
   dumps-same old new same none = λ volume declared. subst IsSurelyLost (sym (same volume declared)) (none volume declared)
 
-  -- a recovery makes none: each holds its image
-  pub dumps-recovered : (faults : D → ℕ) (old new : List (Fuse D)) → IsValidConfig config → NoneFalls faults old new → (images : ℕ → Held) → AreImages held old images
-      → ((n : ℕ) (fuse : Fuse D) → 0 < n → (n ≤ 4) ⊎ (4 + length config.volumes < n) → slice_get new n ≡ Some fuse → held (device_of fuse) ≡ images n) → MakesNoDump held config old new
-  dumps-recovered faults old new valid falls images are others none = λ volume declared. of volume declared (slice_get new (dump_device volume)) refl
+  -- a recovery leaves each of them an image of what it held: so what is so of it, of no file, and of each image of what it is so of, stays so
+  each-recovered : (P : Held → Type 0) → P (λ m. None) → ((was image : Held) → P was → Leaves was image → P image) → (faults : D → ℕ) (old new : List (Fuse D)) → IsValidConfig config → NoneFalls faults old new → (images : ℕ → Held) → AreImages held old images
+      → ((n : ℕ) (fuse : Fuse D) → 0 < n → (n ≤ 4) ⊎ (4 + length config.volumes < n) → slice_get new n ≡ Some fuse → held (device_of fuse) ≡ images n)
+      → ((volume : ℕ) → IsDeclared config.volumes volume → P (held_at held old (dump_device volume))) → (volume : ℕ) → IsDeclared config.volumes volume → P (held_at held new (dump_device volume))
+  each-recovered P nothing left faults old new valid falls images are others all volume declared = of (slice_get new (dump_device volume)) refl
     where
-      of : (volume : ℕ) → IsDeclared config.volumes volume → (o : Option (Fuse D)) → slice_get new (dump_device volume) ≡ o → IsSurelyLost (held_at held new (dump_device volume))
-      of volume declared None is = subst IsSurelyLost (sym (ap (λ o. option_map_or (λ fuse. held (device_of fuse)) o (λ m. None)) is)) (cleared-lost (λ m. None) (λ file within. refl))
-      of volume declared (Some fuse) is =
+      of : (o : Option (Fuse D)) → slice_get new (dump_device volume) ≡ o → P (held_at held new (dump_device volume))
+      of None is = subst P (sym (ap (λ o. option_map_or (λ fuse. held (device_of fuse)) o (λ m. None)) is)) nothing
+      of (Some fuse) is =
           let number = dump_device volume in
           let before = was-at (λ a b. fuse_faults faults a ≤ fuse_faults faults b) old new number fuse falls is in
-          let was : IsSurelyLost (held (device_of before.0)) = subst IsSurelyLost (sym (held-is held old number before.0 before.1)) (none volume declared) in
-          let image : IsSurelyLost (images number) = λ left leaves. was left (leaves-then (held (device_of before.0)) (images number) left (are number before.0 before.1) leaves) in
-          subst IsSurelyLost (held-is held new number fuse is)
-          (subst IsSurelyLost (sym (others number fuse (omega (arith, declared.above)) (inr (let few = valid.volumes.few in omega (arith, few, declared.above))) is)) image)
+          let was : P (held (device_of before.0)) = subst P (sym (held-is held old number before.0 before.1)) (all volume declared) in
+          let image : P (images number) = left (held (device_of before.0)) (images number) was (are number before.0 before.1) in
+          subst P (held-is held new number fuse is)
+          (subst P (sym (others number fuse (omega (arith, declared.above)) (inr (let few = valid.volumes.few in omega (arith, few, declared.above))) is)) image)
+
+  -- it makes no dump,
+  pub dumps-recovered : (faults : D → ℕ) (old new : List (Fuse D)) → IsValidConfig config → NoneFalls faults old new → (images : ℕ → Held) → AreImages held old images
+      → ((n : ℕ) (fuse : Fuse D) → 0 < n → (n ≤ 4) ⊎ (4 + length config.volumes < n) → slice_get new n ≡ Some fuse → held (device_of fuse) ≡ images n) → MakesNoDump held config old new
+  dumps-recovered faults old new valid falls images are others none =
+      each-recovered IsSurelyLost (cleared-lost (λ m. None) (λ file within. refl)) (λ was image lost leaves left again. lost left (leaves-then was image left leaves again)) faults old new valid falls images are others none
+
+  -- and leaves none of their files where there was none
+  pub cleared-recovered : (faults : D → ℕ) (old new : List (Fuse D)) → IsValidConfig config → NoneFalls faults old new → (images : ℕ → Held) → AreImages held old images
+      → ((n : ℕ) (fuse : Fuse D) → 0 < n → (n ≤ 4) ⊎ (4 + length config.volumes < n) → slice_get new n ≡ Some fuse → held (device_of fuse) ≡ images n) → AreCleared held config old → AreCleared held config new
+  cleared-recovered faults old new valid falls images are others none =
+      each-recovered IsCleared (λ file within. refl) (λ was image cleared leaves. cleared-image was image cleared leaves) faults old new valid falls images are others none

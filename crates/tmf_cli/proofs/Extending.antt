@@ -160,6 +160,19 @@ pub silent-none : (lines : List Line) → AreSilent lines → places_told lines 
 silent-none [] quiet = refl
 silent-none (line ∷ lines) quiet = given_none place_told line lines quiet.0.0 ∙ silent-none lines quiet.1
 
+-- a line that tells no place acknowledges no commit
+unplaced : (line : Line) → place_told line ≡ None → acknowledged_by line ≡ None
+unplaced (Committed tx place) none = absurd (cc none)
+unplaced _ none = refl
+
+pub silent-acknowledge : (lines : List Line) → AreSilent lines → acknowledged lines ≡ []
+silent-acknowledge [] silent = refl
+silent-acknowledge (line ∷ lines) silent = given_none acknowledged_by line lines (unplaced line silent.0.0) ∙ silent-acknowledge lines silent.1
+
+nil-parts : {T : Type 0} (xs ys : List T) → xs ++ ys ≡ [] → (xs ≡ []) × (ys ≡ [])
+nil-parts [] ys none = (refl, none)
+nil-parts (x ∷ xs) ys none = absurd (cc none)
+
 -- a line that tells a place acknowledges a commit
 place-or-none : (line : Line) → (place_told line ≡ None) ⊎ ((tx : Transid) × (place : ℕ) × (line ≡ Committed tx place))
 place-or-none (Committed tx place) = inr (tx, place, refl)
@@ -212,6 +225,11 @@ extend-more config low middle high first more lines others s t u a b =
           (places-all (λ n. n ≤ length t.list) lines (λ tx place there. let at = a.places tx place there in up_to place at.0 (slice_get_within t.list (place - 1) (Commit tx) at.1)))
           (a.in_order (λ run tx of there. single run tx (Contains-append_left first more run of) (Contains-append_left a.records b.records (Commit tx) there)))
           (b.in_order (λ run tx of there. single run tx (Contains-append_right first more run of) (Contains-append_right a.records b.records (Commit tx) there))));
+      all_in_order = λ single none.
+          let parts = nil-parts (doubted lines) (doubted others) (sym (filter_map-append doubted_by lines others) ∙ none) in
+          let one = a.all_in_order (λ run tx of there. single run tx (Contains-append_left first more run of) (Contains-append_left a.records b.records (Commit tx) there)) parts.0 in
+          let other = b.all_in_order (λ run tx of there. single run tx (Contains-append_right first more run of) (Contains-append_right a.records b.records (Commit tx) there)) parts.1 in
+          filter_map-append committed_by a.records b.records ∙ ap (λ l. l ++ commits_of b.records) one ∙ ap (λ l. acknowledged lines ++ l) other ∙ sym (filter_map-append acknowledged_by lines others);
       places = λ tx place there.
           ⊎_elim (λ here. let at = a.places tx place here in (at.0, stays-at t.list b.records u.list (place - 1) (Commit tx) b.list at.1)) (λ later. let at = b.places tx place later in (omega (arith, longer, at.0), at.1))
           (Contains-append_cases lines others (Committed tx place) there);
@@ -246,6 +264,7 @@ extend-moved config low high lines lost s rising silent moves = record {
   list = sym (append-nil s.list);
   no_other = λ tx there. absurd (nothing-in (Commit tx) there);
   in_order = λ single. subst (AreAbove (length s.list)) (sym (silent-none lines silent)) tt;
+  all_in_order = λ single none. sym (silent-acknowledge lines silent);
   places = λ tx place there. absurd (silent-tell lines silent tx place there);
   map = refl;
   lost = moves;
@@ -272,6 +291,7 @@ extend-start config low high lines s rising quiet = record {
   list = refl;
   no_other = λ tx there. absurd (start-no-commit (next_epoch s.list) tx (one-in (Start (next_epoch s.list)) (Commit tx) there));
   in_order = λ single. subst (AreAbove (length s.list)) (sym (silent-none lines (silent-of lines quiet))) tt;
+  all_in_order = λ single none. sym (silent-acknowledge lines (silent-of lines quiet));
   places = λ tx place there. absurd (quiet-tell lines quiet tx place there);
   map = refl;
   lost = still-lost config lines s.lost (still-of lines quiet);

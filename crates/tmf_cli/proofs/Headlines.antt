@@ -474,12 +474,12 @@ module _ {D : Type 0} (held : D → Held) (faults : D → ℕ) (config : Config)
   breaks-turn action.Format node after old new lines knows (none, is) =
       inl (subst (λ (a : Node). KnowsList a.state a.candidates) (sym is) tt, inr (ap (λ (a : Node). a.candidates) is, ap (λ (a : Node). a.state.formatted) is))
   breaks-turn (action.Recover kill) node after old new lines knows (none, is) = inr (stop-step config node after lines kill is (subst AreQuiet (sym none) tt))
-  breaks-turn (action.Run phase) node after old new lines knows (inl (not_up, none, is)) = inr (stays config node after lines (action.Run phase) knows is (subst AreQuiet (sym none) tt))
+  breaks-turn (action.Run phase) node after old new lines knows (inl (not_up, none, is, same)) = inr (stays config node after lines (action.Run phase) knows is (subst AreQuiet (sym none) tt))
   breaks-turn (action.Run phase) node after old new lines knows (inr (inl (up, none, is, same))) = inr (idle-step phase node after lines is (subst AreQuiet (sym none) tt))
   breaks-turn (action.Run phase) node after old new lines knows (inr (inr whole)) = inr (whole-step phase node after old new lines knows whole)
   breaks-turn (action.Lose volume) node after old new lines knows (none, is, same) = inr (stays config node after lines (action.Lose volume) knows is (subst AreQuiet (sym none) tt))
   breaks-turn (action.Rollforward volume kill) node after old new lines knows (none, is, same) = inr (stays config node after lines (action.Rollforward volume kill) knows is (subst AreQuiet (sym none) tt))
-  breaks-turn (action.List file) node after old new lines knows (none, is) = inr (stays config node after lines (action.List file) knows is (subst AreQuiet (sym none) tt))
+  breaks-turn (action.List file) node after old new lines knows (none, is, same) = inr (stays config node after lines (action.List file) knows is (subst AreQuiet (sym none) tt))
 
   -- the origin lies behind some of the actions
   abbrev pub IsLater : Node → List Line → Type 0

@@ -280,6 +280,7 @@ module _ {D : Type 0} (kind : disk.Ghosts D) (config : Config) (phase : Phase) (
         opened = opened;
         closed = closed;
         on = bay.on;
+        armed = bay.armed;
         off = bay.off;
         all = (bay.opened_count, bay.closed_count);
         outcomes = outcomes;
@@ -348,6 +349,7 @@ module _ {D : Type 0} (kind : disk.Ghosts D) (config : Config) (phase : Phase) (
         opened = opened;
         closed = closed;
         on = bay.on;
+        armed = bay.armed;
         off = bay.off;
         error = error;
         not_run = telling_law config phase up.epoch opened closed error tell_opened not_run;
@@ -382,4 +384,4 @@ unrun-done held faults config phase devices state candidates lines down_is print
 pub unrun-broken : {D T E : Type 0} (held : D → Held) (faults : D → ℕ) (config : Config) (phase : Phase) (devices : List (Fuse D)) (state : NodeState) (candidates : Option (List Candidate)) (r : Result T E)
     → up_for config phase state ≡ None → Knows held config (node_of state candidates) devices → IfErr r (λ e. HasBroken held faults config (RunAction phase) (node_of state candidates) devices devices)
 unrun-broken held faults config phase devices state candidates (Ok x) down_is knows = tt
-unrun-broken held faults config phase devices state candidates (Err e) down_is knows = record { after = node_of state candidates; due = []; breaks = inl (down_is, refl, refl); stands = knows.stands }
+unrun-broken held faults config phase devices state candidates (Err e) down_is knows = record { after = node_of state candidates; due = []; breaks = inl (down_is, refl, refl, refl); stands = knows.stands }

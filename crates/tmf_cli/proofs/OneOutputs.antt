@@ -443,9 +443,11 @@ module _ {D : Type 0} (held : D → Held) (faults : D → ℕ) (config : Config)
 
 -- So an output is the only one that the law lets any other call print.
 pub the_output : {D : Type 0} (held : D → Held) (faults : D → ℕ) (one_run : OneRunLaw) (sound : AreSound held) (script : Script) (old new : List (Fuse D)) (sink : Type 0) (before after : List ℕ)
-    → sink → FormatsFirst script → AreSingle script.actions → NoneRose faults old new → (how : Status) → how ≡ status.Done → Tells held faults script None how old new sink before after → IsTheOutput held faults script before after
+    → sink → FormatsFirst script → AreSingle script.actions → NoneRose faults old new → (how : Status) → how ≡ status.Done → Tells held faults script None how old new sink before after → IsTheOutput held faults script old new before after
 the_output held faults one_run sound script old new sink before after tells (rest, first) single none how done told = record {
   lines = whole.lines;
+  end = whole.left;
+  told = whole.told;
   given = whole.given tells;
   only = λ unlimited candidates other_old other_new other left told quiet fresh.
       one_output held faults script.config one_run sound rest candidates None left whole.left other_old other_new old new other whole.lines (subst AreSingle first single).1

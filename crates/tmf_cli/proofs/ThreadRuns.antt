@@ -27,11 +27,12 @@ use Rattle.tmf_model.specs.declared.script.Phase.{Phase}
 use Rattle.tmf_model.specs.declared.transid.Transid.{Transid}
 use Rattle.tmf_model.specs.Commits.{script_transaction}
 use Rattle.trail_files.specs.declared.monitor_record.MonitorRecord.{MonitorRecord}
-use Rattle.trail_files.specs.declared.monitor_record.MonitorRecord.TheVariants.{Start, Commit}
-use Rattle.tmf_cli.specs.Headline.{AreAbove, Extends, epoch_of, is_formatted, meaning_in, move_of, place_told, places_told}
+use Rattle.trail_files.specs.declared.monitor_record.MonitorRecord.TheVariants.{Start, Commit, Abort}
+use Rattle.trail_files.specs.Recovered.{commits_of}
+use Rattle.tmf_cli.specs.Headline.{AreAbove, AreOfSingle, Extends, acknowledged, acknowledged_by, doubted, epoch_of, is_formatted, meaning_in, move_of, place_told, places_told}
 use Rattle.tmf_cli.specs.OutputLaw.{Candidate, GoesOn, with_records}
 use Rattle.tmf_cli.specs.RunLines.{hang_line, read_line, read_lines, run_lines, told_lines}
-use Rattle.tmf_cli.proofs.Extending.{AreQuiet, AreSilent, AreStill, IsQuiet, IsTold, all-append, all-weaker, commits-agree, contained, contains-at, last_epoch-more, meaning-one, nothing-in, one-in, quiet-tell, silent-none, silent-of, silent-tell, slice_get-behind, stays-at, still-lost, told-behind, told-front}
+use Rattle.tmf_cli.proofs.Extending.{AreQuiet, AreSilent, AreStill, IsQuiet, IsTold, all-append, all-weaker, commits-agree, contained, contains-at, last_epoch-more, meaning-one, nothing-in, one-in, quiet-tell, silent-acknowledge, silent-none, silent-of, silent-tell, slice_get-behind, stays-at, still-lost, told-behind, told-front}
 
 -- THE LINES OF A RUN
 
@@ -332,6 +333,150 @@ module _ (list records : List MonitorRecord) (row : AreInRow records) where
       place-of : (u : Transid) (tells : Told) (place : ℕ) (reads : List (ℕ × Option (List ℕ))) → tells ≡ told.Committed place reads → places_told (told_lines config u tells) ≡ place ∷ []
       place-of u tells place reads is = ap (λ (t : Told). places_told (told_lines config u t)) is ∙ ap (λ l. place ∷ l) (silent-none (read_lines u reads) (silent-of (read_lines u reads) (quiet-reads u reads)))
 
+-- THE COMMITS THEMSELVES, IN ORDER
+
+among-contains : {T : Type 0} (xs : List T) (x : T) → Among xs x → Contains xs x
+among-contains [] x there = absurd there
+among-contains (y ∷ xs) x (inl is) = (0, omega arith, is)
+among-contains (y ∷ xs) x (inr there) = Contains-append_right (y ∷ []) xs x (among-contains xs x there)
+
+contains-among : {T : Type 0} (xs : List T) (x : T) → Contains xs x → Among xs x
+contains-among [] x there = absurd (nothing-in x there)
+contains-among (y ∷ xs) x (zero, less, is) = inl is
+contains-among (y ∷ xs) x (suc k, less, is) = inr (contains-among xs x (k, omega (arith, less), is))
+
+-- each attempt is before all behind it
+abbrev AreOrdered : List Transid → Type 0
+AreOrdered [] = Unit {0}
+AreOrdered (t ∷ ts) = ((u : Transid) → Among ts u → IsBefore t u) × AreOrdered ts
+
+never-before : (t u : Transid) → t ≡ u → IsBefore t u → ⊥
+never-before t u is before = let own = subst (λ v. IsBefore v u) is before in not-both u u own own
+
+-- two such lists with the same members are one
+same-ordered : (ts us : List Transid) → AreOrdered ts → AreOrdered us → ((t : Transid) → Among ts t → Among us t) → ((t : Transid) → Among us t → Among ts t) → ts ≡ us
+same-ordered [] [] one other there back = refl
+same-ordered [] (u ∷ us) one other there back = absurd (back u (inl refl))
+same-ordered (t ∷ ts) [] one other there back = absurd (there t (inl refl))
+same-ordered (t ∷ ts) (u ∷ us) one other there back =
+    ap (λ v. v ∷ ts) head
+    ∙ ap (λ l. u ∷ l)
+    (same-ordered ts us one.1 other.1
+    (λ v in_ts. ⊎_elim (λ is. absurd (never-before t v (head ∙ is) (one.0 v in_ts))) (λ in_us. in_us) (there v (inr in_ts)))
+    (λ v in_us. ⊎_elim (λ is. absurd (never-before u v (sym head ∙ is) (other.0 v in_us))) (λ in_ts. in_ts) (back v (inr in_us))))
+  where
+    head : t ≡ u
+    head = ⊎_elim (λ is. sym is) (λ in_us. ⊎_elim (λ is. is) (λ in_ts. absurd (not-both t u (one.0 u in_ts) (other.0 t in_us))) (back u (inl refl))) (there t (inl refl))
+
+-- so it is where they are ordered as soon as the one list has a member
+same-members : (ts us : List Transid) → ((t : Transid) → Among ts t → AreOrdered ts × AreOrdered us) → ((t : Transid) → Among ts t → Among us t) → ((t : Transid) → Among us t → Among ts t) → ts ≡ us
+same-members [] [] ordered there back = refl
+same-members [] (u ∷ us) ordered there back = absurd (back u (inl refl))
+same-members (t ∷ ts) us ordered there back = let are = ordered t (inl refl) in same-ordered (t ∷ ts) us are.0 are.1 there back
+
+-- the commits of records are those of which one of the records is
+commits-among : (records : List MonitorRecord) (t : Transid) → Among (commits_of records) t → Among records (Commit t)
+commits-among [] t there = absurd there
+commits-among (Start e ∷ records) t there = inr (commits-among records t there)
+commits-among (Abort u ∷ records) t there = inr (commits-among records t there)
+commits-among (Commit u ∷ records) t (inl is) = inl (ap (λ v. Commit v) is)
+commits-among (Commit u ∷ records) t (inr there) = inr (commits-among records t there)
+
+among-commits : (records : List MonitorRecord) (t : Transid) → Among records (Commit t) → Among (commits_of records) t
+among-commits [] t there = absurd there
+among-commits (x ∷ records) t (inl is) = subst (λ y. Among (commits_of (y ∷ records)) t) (sym is) (inl refl)
+among-commits (x ∷ records) t (inr there) = behind x (among-commits records t there)
+  where
+    behind : (y : MonitorRecord) → Among (commits_of records) t → Among (commits_of (y ∷ records)) t
+    behind (Start e) is = is
+    behind (Abort u) is = is
+    behind (Commit u) is = inr is
+
+-- of records in a row the commits of one worker are ordered
+commits-ordered : (records : List MonitorRecord) → AreInRow records → ((t u : Transid) → Among records (Commit t) → Among records (Commit u) → t.worker ≡ u.worker) → AreOrdered (commits_of records)
+commits-ordered [] row same = tt
+commits-ordered (Start e ∷ records) row same = commits-ordered records row.1 (λ t u one other. same t u (inr one) (inr other))
+commits-ordered (Abort v ∷ records) row same = commits-ordered records row.1 (λ t u one other. same t u (inr one) (inr other))
+commits-ordered (Commit v ∷ records) row same = (
+  λ u there. let at = commits-among records u there in row.0 (Commit u) at v u refl refl (same v u (inl refl) (inr at)),
+  commits-ordered records row.1 (λ t u one other. same t u (inr one) (inr other)),
+)
+
+-- outcomes in order are of one worker
+worker-same : (outcomes : List Outcome) → AreInOrder outcomes → (o p : Outcome) → Among outcomes o → Among outcomes p → o.tx.worker ≡ p.tx.worker
+worker-same [] order o p one other = absurd one
+worker-same (x ∷ outcomes) order o p one other = sym (first o one) ∙ first p other
+  where
+    first : (q : Outcome) → Among (x ∷ outcomes) q → x.tx.worker ≡ q.tx.worker
+    first q (inl is) = ap (λ (y : Outcome). y.tx.worker) is
+    first q (inr there) = (contained (IsNext x) outcomes q order.0 (among-contains outcomes q there)).1
+
+-- the lines of an outcome acknowledge its attempt where it tells that it has committed, and nothing otherwise
+acknowledge-one : (config : Config) (o : Outcome) (rest : List Outcome)
+    → (acknowledged (run_lines config (o ∷ rest)) ≡ acknowledged (run_lines config rest))
+    ⊎ ((place : ℕ) × (reads : List (ℕ × Option (List ℕ))) × (o.told ≡ told.Committed place reads) × (acknowledged (run_lines config (o ∷ rest)) ≡ o.tx ∷ acknowledged (run_lines config rest)))
+acknowledge-one config o rest =
+    ⊎_elim (λ silent. inl (both ∙ ap (λ l. l ++ acknowledged (run_lines config rest)) (silent-acknowledge (told_lines config o.tx o.told) silent)))
+    (λ is. inr (is.0, is.1, is.2, both ∙ ap (λ l. l ++ acknowledged (run_lines config rest)) (own o.tx o.told is.0 is.1 is.2)))
+    (committed-or-silent config o.tx o.told)
+  where
+    both : acknowledged (run_lines config (o ∷ rest)) ≡ acknowledged (told_lines config o.tx o.told) ++ acknowledged (run_lines config rest)
+    both = filter_map-append acknowledged_by (told_lines config o.tx o.told) (run_lines config rest)
+
+    own : (u : Transid) (tells : Told) (place : ℕ) (reads : List (ℕ × Option (List ℕ))) → tells ≡ told.Committed place reads → acknowledged (told_lines config u tells) ≡ u ∷ []
+    own u tells place reads is = ap (λ (t : Told). acknowledged (told_lines config u t)) is ∙ ap (λ l. u ∷ l) (silent-acknowledge (read_lines u reads) (silent-of (read_lines u reads) (quiet-reads u reads)))
+
+-- one of the outcomes is of the attempt, and tells that it has committed
+abbrev HasTold : List Outcome → Transid → Type 0
+HasTold outcomes t = (o : Outcome) × (place : ℕ) × (reads : List (ℕ × Option (List ℕ))) × Among outcomes o × (o.tx ≡ t) × (o.told ≡ told.Committed place reads)
+
+told-later : (o : Outcome) (rest : List Outcome) (t : Transid) → HasTold rest t → HasTold (o ∷ rest) t
+told-later o rest t is = (is.0, is.1, is.2, inr is.3, is.4, is.5)
+
+-- it is so of each attempt that the lines acknowledge
+acknowledged-told : (config : Config) (outcomes : List Outcome) (t : Transid) → Among (acknowledged (run_lines config outcomes)) t → HasTold outcomes t
+acknowledged-told config [] t there = absurd there
+acknowledged-told config (o ∷ rest) t there =
+    ⊎_elim (λ same. told-later o rest t (acknowledged-told config rest t (subst (λ l. Among l t) same there)))
+    (λ is. ⊎_elim (λ here. (o, is.0, is.1, inl refl, here, is.2)) (λ behind. told-later o rest t (acknowledged-told config rest t behind)) (subst (λ l. Among l t) is.3 there))
+    (acknowledge-one config o rest)
+
+-- those of outcomes in order are ordered
+acknowledged-ordered : (config : Config) (outcomes : List Outcome) → AreInOrder outcomes → AreOrdered (acknowledged (run_lines config outcomes))
+acknowledged-ordered config [] order = tt
+acknowledged-ordered config (o ∷ rest) order =
+    ⊎_elim (λ same. subst AreOrdered (sym same) (acknowledged-ordered config rest order.1))
+    (λ is. subst AreOrdered (sym is.3) (
+      λ u there. let of = acknowledged-told config rest u there in subst (λ v. IsBefore o.tx v) of.4 (contained (IsNext o) rest of.0 order.0 (among-contains rest of.0 of.3)).0,
+      acknowledged-ordered config rest order.1,
+    ))
+    (acknowledge-one config o rest)
+
+-- Where no line leaves a commit in doubt, and the outcomes are in order as soon as the records have a commit, the commits of the records are those that the lines acknowledge, in their order.
+commits-exact : (config : Config) (list records : List MonitorRecord) (outcomes : List Outcome) → ((item : MonitorRecord) → Contains records item → IsRecordOf outcomes item) → AreInRow records → ArePlaced list records outcomes
+    → ((tx : Transid) → Contains records (Commit tx) → AreInOrder outcomes) → doubted (run_lines config outcomes) ≡ [] → commits_of records ≡ acknowledged (run_lines config outcomes)
+commits-exact config list records outcomes each row placed order none =
+    same-members (commits_of records) (acknowledged (run_lines config outcomes))
+    (λ t there. let are = order t (is_record t there) in (
+      commits-ordered records row (λ u v one other.
+          let of = each (Commit u) (among-contains records (Commit u) one) in
+          let off = each (Commit v) (among-contains records (Commit v) other) in
+          ap (λ (x : Transid). x.worker) (sym of.tx_is) ∙ worker-same outcomes are of.outcome off.outcome of.among off.among ∙ ap (λ (x : Transid). x.worker) off.tx_is),
+      acknowledged-ordered config outcomes are,
+    ))
+    (λ t there.
+    let of = each (Commit t) (is_record t there) in
+    ⊎_elim (λ is. contains-among (acknowledged (run_lines config outcomes)) t (subst (λ u. Contains (acknowledged (run_lines config outcomes)) u) of.tx_is is))
+    (λ doubt. absurd (nothing-in of.outcome.tx (subst (λ l. Contains l of.outcome.tx) none doubt)))
+    (is-told config outcomes of.outcome of.among of.is_so))
+    (λ t there.
+    let of = acknowledged-told config outcomes t there in
+    let at = placed of.0 of.1 of.2 (among-contains outcomes of.0 of.3) of.5 in
+    subst (λ u. Among (commits_of records) u) of.4 (among-commits records of.0.tx (among-at records at.0 (Commit of.0.tx) at.2)))
+  where
+    is_record : (t : Transid) → Among (commits_of records) t → Contains records (Commit t)
+    is_record t there = among-contains records (Commit t) (commits-among records t there)
+
 -- A RUN IS ADDED
 
 -- With records in a row of which each is of an outcome, where each transaction that is told as committed has its own at its place, it is extended by the run.
@@ -347,9 +492,9 @@ extend-run config phase epoch s outcomes records same attempts each row placed =
           let of = each (Commit tx) there in
           subst (IsTold (run_lines config outcomes)) of.tx_is (is-told config outcomes of.outcome of.among of.is_so);
       in_order = λ single.
-          places-rise s.list records row config (length s.list) outcomes
-          (λ tx there. workers-order epoch 1 phase.workers outcomes (single (record { epoch = epoch; phase = phase }) tx (0, omega arith, refl) there (of_epoch tx there)).few attempts) placed
+          places-rise s.list records row config (length s.list) outcomes (in_row single) placed
           (λ o place reads there tells. let is = placed o place reads there tells in omega (arith, is.1));
+      all_in_order = λ single none. commits-exact config s.list records outcomes each row placed (in_row single) none;
       places = λ tx place there.
           let is = lines-tell config outcomes tx place there in
           let at = placed is.0 place is.1 is.2 is.4 in (
@@ -367,6 +512,10 @@ extend-run config phase epoch s outcomes records same attempts each row placed =
     of_epoch tx there =
         let of = each (Commit tx) there in
         subst (λ (t : Transid). t.epoch ≡ epoch) of.tx_is (among-epoch epoch outcomes of.outcome (workers-epoch epoch 1 phase.workers outcomes attempts) of.among)
+
+    -- as soon as there is one, the outcomes of a single run are in order
+    in_row : AreOfSingle (record { epoch = epoch; phase = phase } ∷ []) records → (tx : Transid) → Contains records (Commit tx) → AreInOrder outcomes
+    in_row single tx there = workers-order epoch 1 phase.workers outcomes (single (record { epoch = epoch; phase = phase }) tx (0, omega arith, refl) there (of_epoch tx there)).few attempts
 
     place-split : (place count n : ℕ) → place ≡ count + suc n → place - 1 ≡ count + n
     place-split place count n is = omega (arith, is)

@@ -38,7 +38,7 @@ use Rattle.tmf_edges.specs.Moves.{AppendsPart}
 use Rattle.tmf_cli.specs.declared.node.NodeState.{NodeState}
 use Rattle.tmf_cli.specs.declared.node.Up.{Up}
 use Rattle.tmf_cli.specs.BetweenActions.{IsListLine}
-use Rattle.tmf_cli.specs.Countdown.{KeepsCounts, OnceSwitched, Switches, kill_of}
+use Rattle.tmf_cli.specs.Countdown.{IsOn, KeepsCounts, OnceSwitched, Switches, kill_of}
 use Rattle.tmf_cli.specs.Counts.{AreCounted}
 use Rattle.tmf_cli.specs.Ending.{EndsUntouched, opening}
 use Rattle.tmf_cli.specs.Lost.{lost_flags, up_for, up_with, with_volume}
@@ -69,14 +69,15 @@ module _ {D : Type 0} (kind : disk.Ghosts D) (config : Config) where
     pub failed : (device : ℕ) → error ≡ recovery.Failed device → HasFailed kind.faults config old new device
     pub left : after ≡ down state
 
-  -- The outcomes of a run of a node that was up, and its devices, are those of one history. It prints them, and takes the node down. The countdown may have been switched on before it, and off
-  -- behind it.
+  -- The outcomes of a run of a node that was up, and its devices, are those of one history. It prints them, and takes the node down. The countdown is on in it where it is to be cut off,
+  -- and is switched off behind it.
   pub record PrintsRun (phase : Phase) (state : NodeState) (old : List (Fuse D)) (lines : List Line) (after : NodeState) (new : List (Fuse D)) : Type 0 where
     pub up : Up
     pub was_up : up_for config phase state ≡ Some up
     pub opened : List (Fuse D)
     pub closed : List (Fuse D)
     pub on : Switches old opened
+    pub armed : phase.kill ≢ None → IsOn opened
     pub off : Switches closed new
     pub outcomes : List Outcome
     pub ran : HasRun (fuse_kind kind) config phase up.epoch opened closed outcomes
@@ -91,6 +92,7 @@ module _ {D : Type 0} (kind : disk.Ghosts D) (config : Config) where
     pub opened : List (Fuse D)
     pub closed : List (Fuse D)
     pub on : Switches old opened
+    pub armed : phase.kill ≢ None → IsOn opened
     pub off : Switches closed new
     pub error : PhaseError
     pub not_run : HasNotRun (fuse_kind kind) config phase up.epoch opened closed error

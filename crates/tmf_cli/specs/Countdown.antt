@@ -1,5 +1,5 @@
 -- The countdown of a bay: which actions it may cut off, and what is so of the fuses behind them.
-use Rattle.std.specs.Prelude.{◌≡◌, ◌⊎◌, ℕ, List, slice_get, Option, Some, None, false}
+use Rattle.std.specs.Prelude.{◌≡◌, ◌⊎◌, ℕ, List, slice_get, Option, Some, None, false, true}
 use Rattle.std.specs.List.{AllByRecursion}
 use Rattle.disk_model.specs.Devices.{EachFuse, NoneFalls}
 use Rattle.disk_model.specs.Fuse.{cuts_of, device_of, is_armed}
@@ -23,6 +23,10 @@ NoneKilled actions = AllByRecursion (λ action. kill_of action ≡ None) actions
 -- the countdown is off: no fuse is armed
 abbrev pub IsOff : {D : Type 0} → List (Fuse D) → Type 0
 IsOff {D} fuses = (n : ℕ) (fuse : Fuse D) → slice_get fuses n ≡ Some fuse → is_armed fuse ≡ false
+
+-- it is on: each fuse is armed
+abbrev pub IsOn : {D : Type 0} → List (Fuse D) → Type 0
+IsOn {D} fuses = (n : ℕ) (fuse : Fuse D) → slice_get fuses n ≡ Some fuse → is_armed fuse ≡ true
 
 -- no call was cut of any fuse
 abbrev pub NoneCut : {D : Type 0} → List (Fuse D) → List (Fuse D) → Type 0

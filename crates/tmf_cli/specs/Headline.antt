@@ -120,6 +120,8 @@ pub record Extends (config : Config) (low high : ℕ) (runs : List RunDone) (lin
   pub no_other : (tx : Transid) → Contains records (Commit tx) → Contains (acknowledged lines) tx ⊎ Contains (doubted lines) tx
   -- where each of them is of a single run, the lines acknowledge them in the order in which they stand, all behind the list
   pub in_order : AreOfSingle runs records → AreAbove (length s.list) (places_told lines)
+  -- and where no line leaves one in doubt, they are exactly those that the lines acknowledge, in the order of the lines
+  pub all_in_order : AreOfSingle runs records → doubted lines ≡ [] → commits_of records ≡ acknowledged lines
   -- each acknowledged one is new, and stands at its place
   pub places : (tx : Transid) (place : ℕ) → Contains lines (Committed tx place) → (length s.list < place) × (slice_get t.list (place - 1) ≡ Some (Commit tx))
   -- the map is the fold of the script's transactions over the new commits

@@ -1,5 +1,5 @@
 -- Where no device fails, the output is one function of the script.
-use Rattle.std.specs.Prelude.{◌≡◌, ℕ, Bool, true, false, List, ◌∷◌, ◌++◌, Option}
+use Rattle.std.specs.Prelude.{◌≡◌, ℕ, Bool, true, false, List, ◌∷◌, ◌++◌, Option, None}
 use Rattle.std.specs.List.{AllByRecursion}
 use Rattle.disk_model.specs.Held.{Held}
 use Rattle.disk_model.specs.declared.fuse.Fuse.{Fuse}
@@ -48,10 +48,12 @@ BeginsWithFormat actions = (rest : List Action) × (actions ≡ Format ∷ rest)
 abbrev pub FormatsFirst : Script → Type 0
 FormatsFirst script = BeginsWithFormat script.actions
 
--- The sink was given the output that the script determines: whatever devices another call for this script has, where none of them fails, and no line tells of a limit, the law of the
--- output lets it print these lines alone.
-pub record IsTheOutput {D : Type 0} (held : D → Held) (faults : D → ℕ) (script : Script) (before after : List ℕ) : Type 0 where
+-- The sink was given the output that the script determines. These are the lines that its actions have printed; and whatever devices another call for this script has, where none of them fails,
+-- and no line tells of a limit, the law of the output lets it print these lines alone.
+pub record IsTheOutput {D : Type 0} (held : D → Held) (faults : D → ℕ) (script : Script) (devices after_all : List (Fuse D)) (before after : List ℕ) : Type 0 where
   pub lines : List Line
+  pub end : Node
+  pub told : ToldBy held faults script.config script.actions (opening None) devices lines end after_all
   pub given : after ≡ before ++ lines_text lines
   pub only : AreUnlimited lines → (candidates : Option (List Candidate)) (old new : List (Fuse D)) (other : List Line) (left : Node) → ToldBy held faults script.config script.actions (opening candidates) old other left new
       → NoneRose faults old new → AreUnlimited other → other ≡ lines

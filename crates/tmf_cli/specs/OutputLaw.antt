@@ -39,7 +39,7 @@ use Rattle.tmf_cli.specs.Single.{IsSingle, items_of}
 use Rattle.tmf_lines.specs.Report.{device_name, file_name_of, format_failure, listed_lines, node_device_name, recovered_lines, volume_name}
 use Rattle.tmf_cli.specs.declared.node.NodeState.{NodeState}
 use Rattle.tmf_cli.specs.declared.node.Up.{Up}
-use Rattle.tmf_cli.specs.Countdown.{KeepsCounts, Switches, kill_of}
+use Rattle.tmf_cli.specs.Countdown.{IsOn, KeepsCounts, Switches, kill_of}
 use Rattle.tmf_cli.specs.RunLines.{run_lines}
 use Rattle.single_law.specs.Left.{records_left}
 use Rattle.single_law.specs.Row.{AreInRow}
@@ -240,13 +240,14 @@ abbrev pub MakesNoDump : {D : Type 0} → (D → Held) → Config → List (Fuse
 MakesNoDump held config old new = HaveNoDumps held config old → HaveNoDumps held config new
 
 -- A run is whole: the node was up, and each volume that an item names was there; no device was unfit; its outcomes are those of one history, which shows what is left of the devices; it prints them, and takes the
--- node down. The countdown may have been switched on before it, and off behind it.
+-- node down. The countdown is on in it where it is to be cut off, and is switched off behind it.
 pub record RunsWhole {D : Type 0} (held : D → Held) (faults : D → ℕ) (config : Config) (phase : Phase) (node : Node) (old : List (Fuse D)) (lines : List Line) (after : Node) (new : List (Fuse D)) : Type 0 where
   pub up : Up
   pub was_up : up_for config phase node.state ≡ Some up
   pub opened : List (Fuse D)
   pub closed : List (Fuse D)
   pub on : Switches old opened
+  pub armed : phase.kill ≢ None → IsOn opened
   pub off : Switches closed new
   pub all : (length opened ≡ devices) × (length closed ≡ devices)
   pub outcomes : List Outcome
@@ -255,7 +256,7 @@ pub record RunsWhole {D : Type 0} (held : D → Held) (faults : D → ℕ) (conf
   pub fit : (device : ℕ) (damage : DamageAt) → IsUnfit (fuse_kind (telling held faults)) config phase up.epoch opened device damage → ⊥
   -- that these records are those of the history follows from the images, which both allow
   pub stands : OneGoesOn config phase up.epoch (held_at held opened) outcomes node.candidates after.candidates
-  -- transactions alone make no dump
+  -- where it is known what the devices may stand for, transactions alone make no dump
   pub dumps : AllTransactions phase → node.candidates ≢ None → MakesNoDump held config old new
   pub printed : lines ≡ run_lines config outcomes
   pub state : after.state ≡ down node.state
@@ -283,6 +284,7 @@ pub record RunsNot {D : Type 0} (held : D → Held) (faults : D → ℕ) (config
   pub opened : List (Fuse D)
   pub closed : List (Fuse D)
   pub on : Switches old opened
+  pub armed : phase.kill ≢ None → IsOn opened
   pub off : Switches closed new
   pub error : PhaseError
   pub not_run : HasNotRun (fuse_kind (telling held faults)) config phase up.epoch opened closed error
@@ -311,6 +313,7 @@ pub record RecoversWhole {D : Type 0} (held : D → Held) (config : Config) (nod
   pub answered : RecoversWithVolumes held config images (Ok (answer_of config images list)) new
   pub left_epoch : next_epoch list ≤ 4294967295
   pub dumps : MakesNoDump held config old new
+  pub cleared : AreCleared held config old → AreCleared held config new
   pub printed : lines ≡ recovered_lines config node.state.printed list (lost_among images (length config.volumes)) (next_epoch list)
   pub stands : OneIsLeft node.candidates list (lost_among images (length config.volumes)) after.candidates
   pub state : after.state ≡ record {
@@ -462,7 +465,7 @@ module _ {D : Type 0} (held : D → Held) (faults : D → ℕ) (config : Config)
   abbrev pub Breaks : Action → Node → List (Fuse D) → List Line → Node → List (Fuse D) → Type 0
   Breaks Format node old lines after new = (lines ≡ []) × (after ≡ unformatted_node node)
   Breaks (Recover kill) node old lines after new = (lines ≡ []) × (after ≡ stopped_node node)
-  Breaks (Run phase) node old lines after new = ((up_for config phase node.state ≡ None) × (lines ≡ []) × (after ≡ node)) ⊎ BreaksRun held faults config phase node old lines after new
+  Breaks (Run phase) node old lines after new = ((up_for config phase node.state ≡ None) × (lines ≡ []) × (after ≡ node) × (new ≡ old)) ⊎ BreaksRun held faults config phase node old lines after new
   Breaks (Lose volume) node old lines after new = (lines ≡ []) × (after ≡ node) × (new ≡ old)
   Breaks (Rollforward volume kill) node old lines after new = (lines ≡ []) × (after ≡ node) × HoldSame held old new
-  Breaks (ListFile file) node old lines after new = (lines ≡ []) × (after ≡ node)
+  Breaks (ListFile file) node old lines after new = (lines ≡ []) × (after ≡ node) × HoldSame held old new

@@ -1,5 +1,5 @@
 -- What a run makes of the devices of a bay, whether the countdown cuts it off or not.
-use Rattle.std.specs.Prelude.{◌≡◌, ℕ, List, length, Result, MatchResult}
+use Rattle.std.specs.Prelude.{◌≡◌, ◌≢◌, ℕ, List, None, length, Result, MatchResult}
 use Rattle.disk_model.specs.Devices.{NoneFalls}
 use Rattle.disk_model.specs.declared.disk.Disk as disk
 use Rattle.disk_model.specs.declared.fuse.Fuse.{Fuse}
@@ -9,7 +9,7 @@ use Rattle.run_outcomes.specs.Devices.{devices, fuse_kind}
 use Rattle.run_outcomes.specs.Run.{HasNotRun, HasRun, IsExact}
 use Rattle.run_outcomes.specs.declared.outcome.Outcome.{Outcome}
 use Rattle.run_outcomes.specs.declared.outcome.PhaseError.{PhaseError}
-use Rattle.tmf_cli.specs.Countdown.{Switches}
+use Rattle.tmf_cli.specs.Countdown.{IsOn, Switches}
 
 -- Between two states of the devices, before which the countdown may have been switched on, and behind which off, the run has answered so: its outcomes and its devices are those of
 -- one history, and then none was unfit, or no worker has begun.
@@ -17,6 +17,7 @@ pub record RunsBay {D : Type 0} (kind : disk.Ghosts D) (config : Config) (phase 
   pub opened : List (Fuse D)
   pub closed : List (Fuse D)
   pub on : Switches old opened
+  pub armed : phase.kill ≢ None → IsOn opened
   pub off : Switches closed new
   pub opened_count : length opened ≡ devices
   pub closed_count : length closed ≡ devices

@@ -1,5 +1,5 @@
 //! The countdown of a bay, which cuts an action off where its line has `kill`.
-ghost use Rattle.std.specs.Prelude.{◌≡◌, ◌≤◌, ℕ, None, Err, IfErr, IfOk};
+ghost use Rattle.std.specs.Prelude.{◌≡◌, ◌≢◌, ◌≤◌, ℕ, None, Err, IfErr, IfOk};
 ghost use Rattle.disk_model.specs.Devices.{AreImages, DevicesTell, RoseAt};
 ghost use Rattle.disk_model.specs.Held.{Held};
 ghost use Rattle.rollforward.specs.Newest.{HasFailedOn};
@@ -8,7 +8,7 @@ ghost use Rattle.tmf_model.specs.Config.{IsDeclared, IsValidConfig};
 ghost use Rattle.volume_recovery.specs.VolumeAnswers.{RecoversWithVolumes};
 ghost use Rattle.volume_recovery.specs.VolumeLoop.{IsUsed};
 ghost use Rattle.tmf_cli.specs.BetweenActions.{LeavesBay};
-ghost use Rattle.tmf_cli.specs.Countdown.{IsOff, Switches};
+ghost use Rattle.tmf_cli.specs.Countdown.{IsOff, IsOn, Switches};
 ghost use Rattle.tmf_cli.specs.Rolling.{RollsBay};
 
 use disk_model::{Bay, Disk};
@@ -21,6 +21,7 @@ use volume_recovery::{RecoverError, Recovered};
 /// Switches the countdown on, where an action is to be cut off behind so many calls.
 pub fn arm<D: Disk>(bay: &mut Bay<D>, kill: Option<u64>)
     ensures switches { Switches bay.old bay.new }
+    ensures armed { kill ≢ None → IsOn bay.new }
     ensures whole { kill ≡ None → bay.new ≡ bay.old }
 {
     if let Some(calls) = kill {

@@ -86,6 +86,7 @@ fn carry_out<R: Threads + Wait + Sync, K: Sink, D: Disk + Send>(
 fn refusal_line(refusal: ScriptRefusal) -> Option<Line>
     ensures why { IfSome result (λ line. (text : List ℕ) → IsRefusalOf text refusal → SaysWhy text line) }
     ensures none { refusal ≡ ScriptRefusal.NoMemory → result ≡ None }
+    ensures only { result ≡ None → refusal ≡ ScriptRefusal.NoMemory }
 {
     match refusal {
         ScriptRefusal::NoMemory => None,
@@ -206,7 +207,8 @@ pub fn tmf<R: Threads + Wait + Sync, S: Source, K: Sink, D: Disk + Send>(
     // Of a script that formats first, and whose runs are single, where no device fails, the status is 0, and no line tells of a limit or of want of memory, the output is the one that the script determines, whatever
     // devices were handed in. A run is single that has one worker or none, and transactions alone.
     ensures one_output { (script : Script) → is_run (map string_bytes words.now) ≡ true → IsScriptOf script (take read_limit (S.rest source.old)) → IsTrue (S.tells source.old) → IsTrue (K.tells sink.old)
-        → DevicesTell D.tells bay → FormatsFirst script → AreSingle script.actions → NoneRose D.faults bay result.1 → result.0 ≡ 0 → IsTheOutput D.held D.faults script (K.given sink.old) (K.given sink.new) }
+        → DevicesTell D.tells bay → FormatsFirst script → AreSingle script.actions → NoneRose D.faults bay result.1 → result.0 ≡ 0
+        → OnceSwitched (λ opened. IsTheOutput D.held D.faults script opened result.1 (K.given sink.old) (K.given sink.new)) bay }
 
     // Completeness: where no device fails and the status is 0, and it is known what the devices that are handed in may stand for, or the script formats first, none of the lines that were
     // given tells of a fault: each action was carried out, or refused for what the node and its devices are, and each attempt of a run ended in a way that has no fault for its cause.

@@ -12,6 +12,7 @@ returns-clause-ran g c =
       opened = armed;
       closed = mid;
       on = c.arm.ensures.switches;
+      armed = c.arm.ensures.armed;
       off = set-switches false mid c.disarm.new.self c.disarm.ensures.each;
       opened_count = sym returned.count ∙ c.disarm.ensures.count.0;
       closed_count = c.disarm.ensures.count.0;
