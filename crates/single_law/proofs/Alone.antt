@@ -1,5 +1,5 @@
 -- With one worker no attempt is busy, so each item has one outcome, in their order.
-use Rattle.std.specs.Prelude.{◌≡◌, ℕ, zero, suc, ◌==◌, Bool, true, false, if◌then◌else◌, List, [], ◌∷◌, ◌++◌, length, Option, Some, None, option_and_then}
+use Rattle.std.specs.Prelude.{◌≡◌, ℕ, zero, suc, ◌==◌, Bool, true, false, if◌then◌else◌, List, [], ◌∷◌, ◌++◌, length, take, Option, Some, None, option_and_then}
 use Rattle.std.proofs.Common.{refl, ap, sym, ◌∙◌, subst, append-nil, ⊎_elim, inl, inr}
 use Rattle.tmf_model.specs.Commits.{attempted, numbered, script_transaction}
 use Rattle.tmf_model.specs.Transid.{is_between}
@@ -110,25 +110,28 @@ each_one epoch ordinal (item ∷ items) outcomes free (first, more, whole, attem
     let is : outcomes ≡ single.0 ∷ more = whole ∙ ap (λ (l : List Outcome). l ++ more) single.1 in
     (subst (λ (l : List Outcome). AreFrom epoch ordinal l) (sym is) (single.2, all.0), ap (λ (l : List Outcome). length l) is ∙ ap (λ (n : ℕ). suc n) all.1)
 
--- where no outcome is the worker's last, none is skipped
-none_skipped : (outcomes : List Outcome) → ((outcome : Outcome) → Among outcomes outcome → is_last outcome.told ≡ false) → AreSkipped false outcomes → (outcome : Outcome) → Among outcomes outcome → is_skipped outcome.told ≡ false
-none_skipped [] goes are outcome among = absurd among
-none_skipped (first ∷ more) goes are outcome among = ⊎_elim
+-- where none of the first so many outcomes is the worker's last, none of them is skipped
+none_skipped : (count : ℕ) (outcomes : List Outcome) → ((outcome : Outcome) → Among (take count outcomes) outcome → is_last outcome.told ≡ false) → AreSkipped false outcomes
+    → (outcome : Outcome) → Among (take count outcomes) outcome → is_skipped outcome.told ≡ false
+none_skipped zero [] goes are outcome among = absurd among
+none_skipped (suc count) [] goes are outcome among = absurd among
+none_skipped zero (first ∷ more) goes are outcome among = absurd among
+none_skipped (suc count) (first ∷ more) goes are outcome among = ⊎_elim
     (λ (is : first ≡ outcome). ap (λ (o : Outcome). is_skipped o.told) (sym is) ∙ are.0)
-    (λ (rest : Among more outcome). none_skipped more (λ o has. goes o (inr has)) (subst (λ (b : Bool). AreSkipped b more) (goes first (inl refl)) are.1) outcome rest)
+    (λ (rest : Among (take count more) outcome). none_skipped count more (λ o has. goes o (inr has)) (subst (λ (b : Bool). AreSkipped b more) (goes first (inl refl)) are.1) outcome rest)
     among
 
--- what the outcomes of the one worker are
-pub record AreItsOutcomes (epoch : ℕ) (items : List Item) (outcomes : List Outcome) : Type 0 where
+-- what the outcomes of the one worker are, of which the first so many do not end it
+pub record AreItsOutcomes (epoch : ℕ) (items : List Item) (outcomes : List Outcome) (going : ℕ) : Type 0 where
   pub from : AreFrom epoch 1 outcomes
   pub count : length outcomes ≡ length items
-  pub unskipped : (outcome : Outcome) → Among outcomes outcome → is_skipped outcome.told ≡ false
+  pub unskipped : (outcome : Outcome) → Among (take going outcomes) outcome → is_skipped outcome.told ≡ false
 
-pub its_outcomes : (phase : Phase) (epoch : ℕ) (items : List Item) (outcomes : List Outcome) → phase.workers ≡ items ∷ [] → ((outcome : Outcome) → Among outcomes outcome → is_busy outcome.told ≡ false)
-    → ((outcome : Outcome) → Among outcomes outcome → is_last outcome.told ≡ false) → AreOutcomesOf phase epoch outcomes → AreItsOutcomes epoch items outcomes
-its_outcomes phase epoch items outcomes one free goes are = of_workers (subst (λ (w : List (List Item)). AreOfWorkers epoch 1 w outcomes) one are) where
-  of_workers : AreOfWorkers epoch 1 (items ∷ []) outcomes → AreItsOutcomes epoch items outcomes
+pub its_outcomes : (phase : Phase) (epoch : ℕ) (items : List Item) (outcomes : List Outcome) (going : ℕ) → phase.workers ≡ items ∷ [] → ((outcome : Outcome) → Among outcomes outcome → is_busy outcome.told ≡ false)
+    → ((outcome : Outcome) → Among (take going outcomes) outcome → is_last outcome.told ≡ false) → AreOutcomesOf phase epoch outcomes → AreItsOutcomes epoch items outcomes going
+its_outcomes phase epoch items outcomes going one free goes are = of_workers (subst (λ (w : List (List Item)). AreOfWorkers epoch 1 w outcomes) one are) where
+  of_workers : AreOfWorkers epoch 1 (items ∷ []) outcomes → AreItsOutcomes epoch items outcomes going
   of_workers (own, others, whole, of_items, skipped, none) =
       let same : outcomes ≡ own = whole ∙ ap (λ (l : List Outcome). own ++ l) none ∙ append-nil own in
       let all = each_one epoch 1 items outcomes free (subst (λ (l : List Outcome). AreOfItems epoch 1 1 items l) (sym same) of_items) in
-      record { from = all.0; count = all.1; unskipped = none_skipped outcomes goes (subst (λ (l : List Outcome). AreSkipped false l) (sym same) skipped) }
+      record { from = all.0; count = all.1; unskipped = none_skipped going outcomes goes (subst (λ (l : List Outcome). AreSkipped false l) (sym same) skipped) }

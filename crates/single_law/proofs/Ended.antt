@@ -1,7 +1,7 @@
--- Each outcome of the one worker ends as its item does on the map that those before it leave.
+-- Each outcome of the one worker before the last that it carries out ends as its item does on the map that those before it leave.
 use Rattle.std.specs.Prelude.{◌≡◌, ℕ, zero, suc, ◌+◌, ◌<◌, ◌≤◌, List, [], ◌∷◌, ◌++◌, length, map, take, drop, Option, Some, Ok, option_and_then, slice_get}
 use Rattle.std.specs.List.{cons_option}
-use Rattle.std.proofs.Common.{refl, ap, sym, ◌∙◌, subst, arith, append-nil, ⊎_elim, inl, inr}
+use Rattle.std.proofs.Common.{refl, ap, sym, ◌∙◌, subst, arith, append_assoc, append-nil, ⊎_elim, inl, inr}
 use Rattle.std.proofs.lemmas.List.Elements.{filter_map-append}
 use Rattle.std.proofs.lemmas.List.{take-map}
 use Rattle.std.proofs.lemmas.Option.{slice_get_within}
@@ -45,15 +45,17 @@ use Rattle.run_outcomes.specs.declared.outcome.Told.TheVariants.{Aborted, Commit
 use Rattle.single_law.proofs.Acting.{IsActing}
 use Rattle.single_law.proofs.Alone.{AreFrom, of_item}
 use Rattle.single_law.proofs.Folds.{same_meaning}
-use Rattle.single_law.proofs.Given.{IsGiven, WasTurned, account, landed, list_around, was_turned}
-use Rattle.single_law.proofs.Landed.{IsItemTold, IsOwnEnd, all_are, all_left, at_m, attempt_of, ends_or_item, its, landed_left, m, row, told_as}
+use Rattle.single_law.proofs.Given.{IsGiven, WasTurned, account, among_front, landed, list_around, offered, was_turned}
+use Rattle.single_law.proofs.Landed.{IsItemTold, IsOwnEnd, all_are, all_records, at_m, attempt_of, ends_or_item, front_left, going, its, m, row, told_as}
 use Rattle.single_law.proofs.Last.{turned_last, IsTurnedLast}
 use Rattle.single_law.proofs.Moment.{IsAround, at_mf, comes_to, commit_told, effect_same, is_around, keys_free, left_by, mf, not_yet}
 use Rattle.single_law.proofs.Moments.{next_enabled, not_before}
 use Rattle.single_law.proofs.Rooms.{HasRoomAfter, full_at, no_room-agree, room_behind, room_nth}
+use Rattle.single_law.proofs.Rows.{row_front}
 use Rattle.single_law.proofs.Served.{Agree, Leaves, deeds_append, served_leaves, served_take}
 use Rattle.single_law.proofs.Values.{IsAlwaysAlone, refused_at, served_behind}
 use Rattle.single_law.specs.Ended.{FindsNoRoom, GoesThrough, GoesTo, IsEnd}
+use Rattle.single_law.specs.Front.{HaveEndedTo}
 use Rattle.single_law.specs.Left.{end_record, map_left, records_left}
 use Rattle.single_law.specs.Row.{AreInRow}
 use Rattle.single_law.specs.Single.{HasEnded, HaveEnded}
@@ -65,7 +67,7 @@ take_count [] n x at = absurd (cc (at))
 take_count (y ∷ xs) zero x at = refl
 take_count (y ∷ xs) (suc n) x at = ap suc (take_count xs n x at)
 
-take_whole : {T : Type 0} (xs : List T) → take (length xs) xs ≡ xs
+pub take_whole : {T : Type 0} (xs : List T) → take (length xs) xs ≡ xs
 take_whole [] = refl
 take_whole (x ∷ xs) = ap (λ l. x ∷ l) (take_whole xs)
 
@@ -123,7 +125,7 @@ module _ (law : EventsLaw) (holder_law : HolderLaw) (done_law : DoneLaw) (live_l
       subst (λ (t : Transid). after_commit (Some (done log t)) before ≡ after_commit (script_transaction phase found.epoch t) before) told.0
       (effect_same of.0 (steps_done by.0.tx log) before of.2.0 of.2.1.done ∙ ap (λ (x : Option Transaction). after_commit x before) (sym of.1))))
 
-  module _ (earlier later : List Outcome) (outcome : Outcome) (whole : outcomes ≡ earlier ++ outcome ∷ later) where
+  module _ (earlier later : List Outcome) (outcome : Outcome) (whole : outcomes ≡ earlier ++ outcome ∷ later) (few : length earlier < given.count) where
     abbrev from : RecordMap
     from = map_left phase found.epoch earlier map_
 
@@ -136,16 +138,20 @@ module _ (law : EventsLaw) (holder_law : HolderLaw) (done_law : DoneLaw) (live_l
     earlier_among : (e : Outcome) → Among earlier e → Among outcomes e
     earlier_among e has = subst (λ (l : List Outcome). Among l e) (sym whole) (among_left earlier (outcome ∷ later) e has)
 
+    -- up to this one none is the last
+    up_to : (e : Outcome) → Among (earlier ++ outcome ∷ []) e → Among (going law phase items outcomes found log broken given) e
+    up_to e has = subst (λ (l : List Outcome). Among (take given.count l) e) (sym whole) (among_front given.count earlier later outcome e few has)
+
     -- whenever its attempt acts, it is alone
     alone : IsAlwaysAlone law live_law rules images bases dumps list map_ found o log given.history outcome.tx from
     alone = λ front rest x s cut at acts listed.
         let here : IsActing found front outcome.tx = record { s = s; at = at; acts = acts; listed = listed } in
         record {
-          m = mf law holder_law done_law phase items outcomes found log broken given earlier later outcome whole front (x ∷ rest) cut here;
-          at = at_mf law holder_law done_law phase items outcomes found log broken given earlier later outcome whole front (x ∷ rest) cut here;
-          uncommitted = not_yet law holder_law done_law phase items outcomes found log broken given earlier later outcome whole front (x ∷ rest) cut here;
-          keys = keys_free law holder_law done_law phase items outcomes found log broken given earlier later outcome whole front (x ∷ rest) cut here;
-          comes_to = comes_to law holder_law done_law phase items outcomes found log broken given earlier later outcome whole front (x ∷ rest) cut here map_;
+          m = mf law holder_law done_law phase items outcomes found log broken given earlier later outcome whole few front (x ∷ rest) cut here;
+          at = at_mf law holder_law done_law phase items outcomes found log broken given earlier later outcome whole few front (x ∷ rest) cut here;
+          uncommitted = not_yet law holder_law done_law phase items outcomes found log broken given earlier later outcome whole few front (x ∷ rest) cut here;
+          keys = keys_free law holder_law done_law phase items outcomes found log broken given earlier later outcome whole few front (x ∷ rest) cut here;
+          comes_to = comes_to law holder_law done_law phase items outcomes found log broken given earlier later outcome whole few front (x ∷ rest) cut here map_;
         }
 
     abbrev deeds : List Deed
@@ -195,22 +201,37 @@ module _ (law : EventsLaw) (holder_law : HolderLaw) (done_law : DoneLaw) (live_l
     -- COMMITTED
 
     module _ (place : ℕ) (reads : List (ℕ × Option (List ℕ))) (is : outcome.told ≡ Committed place reads) where
-      parts : records_left outcomes ≡ records_left earlier ++ Commit outcome.tx ∷ records_left later
-      parts =
-          ap (λ (l : List Outcome). records_left l) whole ∙ (filter_map-append (λ (u : Outcome). end_record u.tx u.told) earlier (outcome ∷ later)
-          ∙ ap (λ (how : Told). records_left earlier ++ cons_option (end_record outcome.tx how) (records_left later)) is)
+      -- its record stands in what has landed behind those of the outcomes before
+      landed_parts : (behind : List MonitorRecord) × (landed phase items outcomes found log broken ≡ records_left earlier ++ Commit outcome.tx ∷ behind)
+      landed_parts =
+          let front = front_left law phase items outcomes found log broken given (earlier ++ outcome ∷ []) later (whole ∙ sym (append_assoc earlier (outcome ∷ []) later)) up_to in
+          let left : records_left (earlier ++ outcome ∷ []) ≡ records_left earlier ++ Commit outcome.tx ∷ [] =
+          filter_map-append (λ (u : Outcome). end_record u.tx u.told) earlier (outcome ∷ [])
+          ∙ ap (λ (how : Told). records_left earlier ++ cons_option (end_record outcome.tx how) []) is in (
+            front.0,
+            front.1 ∙ (ap (λ (l : List MonitorRecord). l ++ front.0) left ∙ append_assoc (records_left earlier) (Commit outcome.tx ∷ []) front.0),
+          )
 
-      all_parts : recorded (m law phase items outcomes found log broken given).events ++ offered_car (m law phase items outcomes found log broken given).events ≡ records_left earlier ++ Commit outcome.tx ∷ records_left later
-      all_parts = sym (all_are law phase items outcomes found log broken given) ∙ (all_left law phase items outcomes found log broken given ∙ parts)
+      abbrev behind_it : List MonitorRecord
+      behind_it = landed_parts.0 ++ offered phase items outcomes found log broken
 
-      -- its record stands behind those of the outcomes before
+      record_parts : all_records law phase items outcomes found log broken given ≡ records_left earlier ++ Commit outcome.tx ∷ behind_it
+      record_parts =
+          ap (λ (l : List MonitorRecord). l ++ offered phase items outcomes found log broken) landed_parts.1
+          ∙ append_assoc (records_left earlier) (Commit outcome.tx ∷ landed_parts.0) (offered phase items outcomes found log broken)
+
+      all_parts : recorded (m law phase items outcomes found log broken given).events ++ offered_car (m law phase items outcomes found log broken given).events ≡ records_left earlier ++ Commit outcome.tx ∷ behind_it
+      all_parts = sym (all_are law phase items outcomes found log broken given) ∙ record_parts
+
+      -- so that is its place
       place_is : (before : ℕ) → place ≡ found.places + suc before → slice_get (landed phase items outcomes found log broken) before ≡ Some (Commit outcome.tx) → place ≡ place_of
       place_is before is_place at =
-          let there : slice_get (records_left earlier ++ Commit outcome.tx ∷ records_left later) before ≡ Some (Commit outcome.tx) =
-          ap (λ (l : List MonitorRecord). slice_get l before) (sym parts ∙ sym (landed_left law phase items outcomes found log broken given)) ∙ at in
-          let in_row : AreInRow (records_left earlier ++ Commit outcome.tx ∷ records_left later) =
-          subst (λ (l : List MonitorRecord). AreInRow l) (all_left law phase items outcomes found log broken given ∙ parts) (row law phase items outcomes found log broken given) in
-          let index = row_place (records_left earlier) (records_left later) (Commit outcome.tx) outcome.tx before refl in_row there in
+          let there : slice_get (records_left earlier ++ Commit outcome.tx ∷ landed_parts.0) before ≡ Some (Commit outcome.tx) =
+          ap (λ (l : List MonitorRecord). slice_get l before) (sym landed_parts.1) ∙ at in
+          let in_row : AreInRow (records_left earlier ++ Commit outcome.tx ∷ landed_parts.0) =
+          subst (λ (l : List MonitorRecord). AreInRow l) landed_parts.1
+          (row_front (landed phase items outcomes found log broken) (offered phase items outcomes found log broken) (row law phase items outcomes found log broken given)) in
+          let index = row_place (records_left earlier) landed_parts.0 (Commit outcome.tx) outcome.tx before refl in_row there in
           let opened = o.places in
           is_place ∙ (λ i. opened i + suc (index i))
 
@@ -225,7 +246,7 @@ module _ (law : EventsLaw) (holder_law : HolderLaw) (done_law : DoneLaw) (live_l
               through of.0 of.2.1.done,
               record {
                 numbers = of.2.2.numbers;
-                values = of.2.2.values ∙ (reads_law rules found images bases dumps list map_ log o given.history (m law phase items outcomes found log broken given) (at_m law phase items outcomes found log broken given) (records_left earlier) (records_left later) outcome.tx all_parts
+                values = of.2.2.values ∙ (reads_law rules found images bases dumps list map_ log o given.history (m law phase items outcomes found log broken given) (at_m law phase items outcomes found log broken given) (records_left earlier) behind_it outcome.tx all_parts
                     ∙ (ap (λ (v : RecordMap). read_values (done log outcome.tx) v) (left_folds earlier earlier_among) ∙ ap (λ (steps : List Step). reads_after (Ok from) steps) of.2.1.done));
               },
             ),
@@ -354,19 +375,27 @@ module _ (law : EventsLaw) (holder_law : HolderLaw) (done_law : DoneLaw) (live_l
         subst (λ (x : Transaction). IsEnd found.config x from place_of outcome.told) one e.2)
         (λ (item_told : IsItemTold outcome.told).
         absurd (no_item transaction outcome.told (item_at item number at tx ∙ ap (λ (x : Item). Some x) is) item_told (told_as law phase items outcomes found log broken given outcome outcome.told among_outcomes refl).told))
-        (ends_or_item law phase items outcomes found log broken given outcome outcome.told among_outcomes refl)
+        (ends_or_item law phase items outcomes found log broken given outcome outcome.told (up_to outcome (among_right earlier (outcome ∷ []) outcome (inl refl))) refl)
 
   -- THE RUN
 
-  ended_at : (number : ℕ) (outcome : Outcome) → slice_get outcomes number ≡ Some outcome → HasEnded found.config phase found.epoch items list map_ (take number outcomes) number outcome
-  ended_at number outcome at =
+  ended_at : (number : ℕ) (outcome : Outcome) → number < given.count → slice_get outcomes number ≡ Some outcome → HasEnded found.config phase found.epoch items list map_ (take number outcomes) number outcome
+  ended_at number outcome lt at =
       let whole = list_around outcomes number outcome at in
       let earlier : List Outcome = take number outcomes in
       let later : List Outcome = drop (suc number) outcomes in
       let item = item_there outcomes items number outcome (its law phase items outcomes found log broken given).count at in
       let count : length earlier ≡ number = take_count outcomes number outcome at in
-      let tx : outcome.tx ≡ first_attempt found.epoch 1 (suc number) = (beside earlier later outcome whole).tx ∙ ap (λ (n : ℕ). first_attempt found.epoch 1 n) (omega (arith, count)) in
-      record { item = item.0; is_item = item.1; tx = tx; ends = λ transaction is. ends earlier later outcome whole item.0 number transaction item.1 tx is }
+      let few : length earlier < given.count = omega (arith, count, lt) in
+      let tx : outcome.tx ≡ first_attempt found.epoch 1 (suc number) = (beside earlier later outcome whole few).tx ∙ ap (λ (n : ℕ). first_attempt found.epoch 1 n) (omega (arith, count)) in
+      record { item = item.0; is_item = item.1; tx = tx; ends = λ transaction is. ends earlier later outcome whole few item.0 number transaction item.1 tx is }
 
-  pub have_ended : HaveEnded found.config phase found.epoch items list map_ outcomes
-  have_ended = record { count = (its law phase items outcomes found log broken given).count; each = ended_at }
+  pub have_ended_to : HaveEndedTo found.config phase found.epoch items list map_ outcomes given.count
+  have_ended_to = record { each = ended_at }
+
+  -- where none is the last, all have
+  pub have_ended : length outcomes ≤ given.count → HaveEnded found.config phase found.epoch items list map_ outcomes
+  have_ended all = record {
+    count = (its law phase items outcomes found log broken given).count;
+    each = λ number outcome at. (let within = slice_get_within outcomes number outcome at in ended_at number outcome (omega (arith, within, all)) at);
+  }

@@ -1,7 +1,8 @@
 -- What is given of the run of one worker; and that each record of the monitor trail is of an attempt that has begun.
-use Rattle.std.specs.Prelude.{◌≡◌, ℕ, zero, suc, Bool, true, false, if◌then◌else◌, List, [], ◌∷◌, ◌++◌, Option, Some, None, drop, slice_get, take}
+use Rattle.std.specs.Prelude.{◌≡◌, ℕ, zero, suc, ◌<◌, Bool, true, false, if◌then◌else◌, List, [], ◌∷◌, ◌++◌, length, Option, Some, None, drop, slice_get, take}
 use Rattle.std.specs.List.{cons_option, filter_map}
 use Rattle.std.proofs.Common.{refl, ap, sym, ◌∙◌, subst, arith, append_assoc, append-nil, ⊎_elim, inl, inr}
+use Rattle.std.proofs.lemmas.List.{take-append-drop}
 use Rattle.chronicle.proofs.States.{history_rest, state_after, state_is_own, states_after-append}
 use Rattle.chronicle.specs.Histories.{IsEnabled, IsHistory, IsTrueIn, events_of, states_after}
 use Rattle.tmf_model.specs.declared.script.Item.{Item}
@@ -51,19 +52,40 @@ module _ (phase : Phase) (items : List Item) (outcomes : List Outcome) (found : 
   abbrev pub account : Account
   account = record { config = found.config; phase = phase; epoch = found.epoch; log = log; opened = found.places; landed = landed; next = next_at states; broken = broken }
 
-  -- A run of one worker of which no outcome is the last that it carries out.
+  -- A run of one worker, and how many outcomes there are of which none is the last that it carries out.
   pub record IsGiven : Type 0 where
+    pub count : ℕ
     pub one : phase.workers ≡ items ∷ []
     pub history : IsHistory node (opening_parts found) log
     pub attempts : AreOutcomesOf phase found.epoch outcomes
     pub told : AreTold account outcomes
     pub records : (item : MonitorRecord) → Among (landed ++ offered) item → IsRecordOf outcomes item
-    pub goes : (outcome : Outcome) → Among outcomes outcome → is_last outcome.told ≡ false
+    pub goes : (outcome : Outcome) → Among (take count outcomes) outcome → is_last outcome.told ≡ false
 
 pub among_at : {A : Type 0} (xs : List A) (n : ℕ) (x : A) → slice_get xs n ≡ Some x → Among xs x
 among_at [] n x at = absurd (cc (at))
 among_at (y ∷ xs) zero x at = inl (cc (at))
 among_at (y ∷ xs) (suc n) x at = inr (among_at xs n x at)
+
+-- what is among the first so many is in the list
+pub front_among : {A : Type 0} (n : ℕ) (xs : List A) (x : A) → Among (take n xs) x → Among xs x
+front_among n xs x there = subst (λ ys. Among ys x) (take-append-drop n xs) (among_left (take n xs) (drop n xs) x there)
+
+-- what stands up to one of the first so many is among them
+pub among_front : {A : Type 0} (count : ℕ) (xs ys : List A) (y x : A) → length xs < count → Among (xs ++ y ∷ []) x → Among (take count (xs ++ y ∷ ys)) x
+among_front zero xs ys y x lt has = absurd (omega (arith, lt))
+among_front (suc count) [] ys y x lt has = ⊎_elim (λ (is : y ≡ x). inl is) (λ (none : ⊥). absurd none) has
+among_front (suc count) (z ∷ xs) ys y x lt has = ⊎_elim (λ (is : z ≡ x). inl is) (λ (more : Among (xs ++ y ∷ []) x). inr (among_front count xs ys y x (omega (arith, lt)) more)) has
+
+-- what is among the first so many has a number below that
+pub front_number : {A : Type 0} (count : ℕ) (xs : List A) (x : A) → Among (take count xs) x → (n : ℕ) × (n < count) × (slice_get xs n ≡ Some x)
+front_number zero [] x has = absurd has
+front_number (suc count) [] x has = absurd has
+front_number zero (y ∷ xs) x has = absurd has
+front_number (suc count) (y ∷ xs) x has = ⊎_elim
+    (λ (is : y ≡ x). (zero, omega arith, ap (λ z. Some z) is))
+    (λ (more : Among (take count xs) x). (let rest = front_number count xs x more in (suc rest.0, omega (arith, rest.1), rest.2)))
+    has
 
 -- a list around the item of a number
 pub list_around : {A : Type 0} (xs : List A) (n : ℕ) (x : A) → slice_get xs n ≡ Some x → xs ≡ take n xs ++ x ∷ drop (suc n) xs
@@ -217,6 +239,18 @@ given_one : {A B : Type 0} (f : A → Option B) (z : A) (xs : List A) (y : B) �
     → Among (cons_option o (filter_map f xs)) y → (x : A) × Among (z ∷ xs) x × (f x ≡ Some y)
 given_one f z xs y rest None is has = (let r = rest has in (r.0, inr r.1, r.2))
 given_one f z xs y rest (Some w) is has = ⊎_elim (λ (same : w ≡ y). (z, inl refl, is ∙ ap (λ v. Some v) same)) (λ (later : Among (filter_map f xs) y). let r = rest later in (r.0, inr r.1, r.2)) has
+
+-- what a test gives of one of the items of a list it gives of the list
+pub among_given : {A B : Type 0} (f : A → Option B) (xs : List A) (x : A) (y : B) → Among xs x → f x ≡ Some y → Among (filter_map f xs) y
+among_given f [] x y has is = has
+among_given {A} {B} f (z ∷ xs) x y has is = ⊎_elim
+    (λ (same : z ≡ x). subst (λ (o : Option B). Among (cons_option o (filter_map f xs)) y) (sym (ap f same ∙ is)) (inl refl))
+    (λ (later : Among xs x). by_case (f z) (among_given f xs x y later is))
+    has
+  where
+    by_case : (o : Option B) → Among (filter_map f xs) y → Among (cons_option o (filter_map f xs)) y
+    by_case None there = there
+    by_case (Some w) there = inr there
 
 -- what a test gives of a list it gives of one of its items
 pub given_by : {A B : Type 0} (f : A → Option B) (xs : List A) (y : B) → Among (filter_map f xs) y → (x : A) × Among xs x × (f x ≡ Some y)

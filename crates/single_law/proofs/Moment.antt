@@ -1,8 +1,7 @@
 -- When an attempt of the one worker acts at a disc, nobody else holds anything there, and the commits so far come to what the outcomes before its own leave.
-use Rattle.std.specs.Prelude.{◌≡◌, ◌⊎◌, ℕ, suc, ◌+◌, true, false, List, [], ◌∷◌, ◌++◌, length, map, Option, Some, None, slice_get}
+use Rattle.std.specs.Prelude.{◌≡◌, ◌⊎◌, ℕ, suc, ◌+◌, ◌<◌, true, false, List, [], ◌∷◌, ◌++◌, length, map, Option, Some, None, slice_get, take}
 use Rattle.std.specs.List.{cons_option}
 use Rattle.std.proofs.Common.{refl, ap, sym, ◌∙◌, subst, arith, append_assoc, append-nil, ⊎_elim, inl, inr}
-use Rattle.std.proofs.lemmas.List.Elements.{filter_map-append}
 use Rattle.chronicle.specs.Histories.{IsEnabled, IsHistory, IsTrueIn, states_after}
 use Rattle.tmf_model.specs.Commits.{after_commit, script_transaction}
 use Rattle.tmf_model.specs.Effect.{after_steps, closed, effect}
@@ -41,10 +40,10 @@ use Rattle.run_outcomes.specs.declared.outcome.Told.TheVariants.{Aborted, Busy, 
 use Rattle.single_law.proofs.Acting.{IsActing, done_enlisted, none_behind}
 use Rattle.single_law.proofs.Alone.{AreFrom}
 use Rattle.single_law.proofs.Folds.{IsIdle, same_fold, same_meaning}
-use Rattle.single_law.proofs.Given.{IsGiven, account, landed, landed_first, landed_true, monitor_there, offered, recorded_begun, was_backed}
-use Rattle.single_law.proofs.Landed.{IsItemTold, IsLeftBy, IsOwnEnd, all_are, all_left, all_records, at_m, attempt_of, ends_or_item, events_are, its, landed_left, later_from, m, no_attempt, row}
+use Rattle.single_law.proofs.Given.{IsGiven, account, among_front, among_given, front_among, landed, landed_first, landed_true, monitor_there, offered, recorded_begun, was_backed}
+use Rattle.single_law.proofs.Landed.{IsItemTold, IsLeftBy, IsOwnEnd, all_are, all_records, at_m, attempt_of, commit_left, ends_or_item, events_are, front_left, going, its, later_from, m, no_attempt, row}
 use Rattle.single_law.proofs.Moments.{among_cut, begun_before, decided_once, enlist_begun, enlisted_begun, enlisted_decided, enlisted_stands, front_log, is_closed, is_released, next_enabled, not_before, still_true}
-use Rattle.single_law.proofs.Rows.{row_across}
+use Rattle.single_law.proofs.Rows.{row_across, row_front}
 use Rattle.single_law.proofs.Served.{Agree, deeds_append}
 use Rattle.single_law.specs.Left.{end_record, map_left, records_left}
 use Rattle.single_law.specs.Row.{AreInRow}
@@ -113,10 +112,10 @@ effect_same t steps map_ c s = ap (λ xs. closed CommitClose (after_steps xs map
 module _ (law : EventsLaw) (holder_law : HolderLaw) (done_law : DoneLaw) (phase : Phase) (items : List Item) (outcomes : List Outcome) (found : Found) (log : Log) (broken : ℕ → Damage → Type 0)
     (given : IsGiven phase items outcomes found log broken) where
   -- whoever has begun has let go
-  let_go : (outcome : Outcome) → Among outcomes outcome → HasBegun log outcome.tx → HasLetGo log outcome.tx
+  let_go : (outcome : Outcome) → Among (going law phase items outcomes found log broken given) outcome → HasBegun log outcome.tx → HasLetGo log outcome.tx
   let_go outcome among begun = ⊎_elim
-      (λ (own : IsOwnEnd law phase items outcomes found log broken given outcome.told). of_end outcome.told own ((given.told.each outcome among).ended begun))
-      (λ (item : IsItemTold outcome.told). absurd (no_attempt law phase items outcomes found log broken given outcome.tx outcome.told item (given.told.each outcome among).told begun))
+      (λ (own : IsOwnEnd law phase items outcomes found log broken given outcome.told). of_end outcome.told own ((given.told.each outcome (front_among given.count outcomes outcome among)).ended begun))
+      (λ (item : IsItemTold outcome.told). absurd (no_attempt law phase items outcomes found log broken given outcome.tx outcome.told item (given.told.each outcome (front_among given.count outcomes outcome among)).told begun))
       (ends_or_item law phase items outcomes found log broken given outcome outcome.told among refl)
     where
       of_end : (how : Told) → IsOwnEnd law phase items outcomes found log broken given how → MayHold how ⊎ IsEnded (account phase items outcomes found log broken) outcome.tx how → HasLetGo log outcome.tx
@@ -143,7 +142,7 @@ module _ (law : EventsLaw) (holder_law : HolderLaw) (done_law : DoneLaw) (phase 
 
   -- ONE OUTCOME, AT A MOMENT AT WHICH ITS ATTEMPT ACTS
 
-  module _ (earlier later : List Outcome) (o : Outcome) (whole : outcomes ≡ earlier ++ o ∷ later) where
+  module _ (earlier later : List Outcome) (o : Outcome) (whole : outcomes ≡ earlier ++ o ∷ later) (few : length earlier < given.count) where
     around : IsAround found.epoch 1 earlier later o
     around = is_around found.epoch 1 earlier later o (subst (λ (l : List Outcome). AreFrom found.epoch 1 l) whole (its law phase items outcomes found log broken given).from)
 
@@ -153,11 +152,22 @@ module _ (law : EventsLaw) (holder_law : HolderLaw) (done_law : DoneLaw) (phase 
     among_here : (u : Outcome) → Among (earlier ++ o ∷ later) u → Among outcomes u
     among_here u has = subst (λ (l : List Outcome). Among l u) (sym whole) has
 
-    o_among : Among outcomes o
-    o_among = among_here o (among_right earlier (o ∷ later) o (inl refl))
+    -- up to this one none is the last
+    up_to : (u : Outcome) → Among (earlier ++ o ∷ []) u → Among (going law phase items outcomes found log broken given) u
+    up_to u has = subst (λ (l : List Outcome). Among (take given.count l) u) (sym whole) (among_front given.count earlier later o u few has)
+
+    o_going : Among (going law phase items outcomes found log broken given) o
+    o_going = up_to o (among_right earlier (o ∷ []) o (inl refl))
+
+    e_going : (e : Outcome) → Among earlier e → Among (going law phase items outcomes found log broken given) e
+    e_going e has = up_to e (among_left earlier (o ∷ []) e has)
 
     e_among : (e : Outcome) → Among earlier e → Among outcomes e
     e_among e has = among_here e (among_left earlier (o ∷ later) e has)
+
+    -- what the outcomes before leave stands first of what has landed
+    before_it : (behind : List MonitorRecord) × (landed phase items outcomes found log broken ≡ records_left earlier ++ behind)
+    before_it = front_left law phase items outcomes found log broken given earlier (o ∷ later) whole e_going
 
     module _ (front rest : Log) (cut : log ≡ front ++ rest) (acts : IsActing found front o.tx) where
       front_is : IsHistory node (opening_parts found) front
@@ -187,7 +197,7 @@ module _ (law : EventsLaw) (holder_law : HolderLaw) (done_law : DoneLaw) (phase 
           )
 
       -- at the begin of an attempt an earlier one has released
-      released_by_begin : (u : Outcome) (t : Transid) (volume : ℕ) → Among outcomes u → u.tx.worker ≡ t.worker → IsBefore u.tx t → HasBegun front t → HasEnlisted log u.tx volume → HasReleased front u.tx volume
+      released_by_begin : (u : Outcome) (t : Transid) (volume : ℕ) → Among (going law phase items outcomes found log broken given) u → u.tx.worker ≡ t.worker → IsBefore u.tx t → HasBegun front t → HasEnlisted log u.tx volume → HasReleased front u.tx volume
       released_by_begin u t volume among worker earlier_ begun listed =
           let c = begin_cut t begun in
           let u_begun = enlist_begun law found log u.tx volume given.history listed in
@@ -199,13 +209,13 @@ module _ (law : EventsLaw) (holder_law : HolderLaw) (done_law : DoneLaw) (phase 
       later_unbegun : (l : Outcome) → Among later l → HasBegun front l.tx → ⊥
       later_unbegun l has begun =
           let is = around.behind_it l has in
-          still_holds (released_by_begin o l.tx acts.s.number o_among (o_worker ∙ sym is.1) is.0 begun listed_log)
+          still_holds (released_by_begin o l.tx acts.s.number o_going (o_worker ∙ sym is.1) is.0 begun listed_log)
 
       -- each earlier one has released
       earlier_released : (e : Outcome) → Among earlier e → (volume : ℕ) → HasEnlisted log e.tx volume → HasReleased front e.tx volume
       earlier_released e has volume listed =
           let is = around.before e has in
-          released_by_begin e o.tx volume (e_among e has) (is.1 ∙ sym o_worker) is.0 begun_front listed
+          released_by_begin e o.tx volume (e_going e has) (is.1 ∙ sym o_worker) is.0 begun_front listed
 
       -- so it has made no step since
       earlier_done : (e : Outcome) → Among earlier e → steps_done e.tx front ≡ steps_done e.tx log
@@ -225,16 +235,19 @@ module _ (law : EventsLaw) (holder_law : HolderLaw) (done_law : DoneLaw) (phase 
       abbrev pub so_far : List MonitorRecord
       so_far = recorded mf.events
 
-      first_of_all : (more : List MonitorRecord) × (so_far ++ more ≡ records_left outcomes)
+      first_of_all : (more : List MonitorRecord) × (so_far ++ more ≡ landed phase items outcomes found log broken)
       first_of_all =
           let is = landed_first found log front rest mf (m law phase items outcomes found log broken given) cut given.history at_mf (at_m law phase items outcomes found log broken given) in
-          (is.0, is.1 ∙ (ap recorded (sym (events_are law phase items outcomes found log broken given)) ∙ landed_left law phase items outcomes found log broken given))
+          (is.0, is.1 ∙ ap recorded (sym (events_are law phase items outcomes found log broken given)))
 
-      in_all : (x : MonitorRecord) → Among (records_left outcomes) x → Among (all_records law phase items outcomes found log broken given) x
-      in_all x has = subst (λ (l : List MonitorRecord). Among l x) (sym (all_left law phase items outcomes found log broken given)) has
+      -- those that have landed so far, and those that land behind them, stand in a row
+      in_row : AreInRow (so_far ++ first_of_all.0)
+      in_row = subst (λ (l : List MonitorRecord). AreInRow l) (sym first_of_all.1)
+          (row_front (landed phase items outcomes found log broken) (offered phase items outcomes found log broken) (row law phase items outcomes found log broken given))
 
-      so_far_left : (x : MonitorRecord) → Among so_far x → Among (records_left outcomes) x
-      so_far_left x has = subst (λ (l : List MonitorRecord). Among l x) first_of_all.1 (among_left so_far first_of_all.0 x has)
+      so_far_all : (x : MonitorRecord) → Among so_far x → Among (all_records law phase items outcomes found log broken given) x
+      so_far_all x has = among_left (landed phase items outcomes found log broken) (offered phase items outcomes found log broken) x
+          (subst (λ (l : List MonitorRecord). Among l x) first_of_all.1 (among_left so_far first_of_all.0 x has))
 
       so_far_begun : (x : MonitorRecord) (t : Transid) → Among so_far x → ended_by x ≡ Some t → HasBegun front t
       so_far_begun x t has is = recorded_begun law found front mf x t front_is at_mf (among_left so_far (offered_car mf.events) x has) is
@@ -267,15 +280,17 @@ module _ (law : EventsLaw) (holder_law : HolderLaw) (done_law : DoneLaw) (phase 
       -- each commit among them is of an earlier outcome
       commit_from : (u : Transid) → Among so_far (Commit u) → (e : Outcome) × Among earlier e × (e.tx ≡ u) × ((place : ℕ) × (reads : List (ℕ × Option (List ℕ))) × (e.told ≡ Committed place reads))
       commit_from u has =
-          let by = left_by outcomes (Commit u) (so_far_left (Commit u) has) in
-          let told = commit_told by.0.tx u by.0.told by.2 in
+          let by = given.records (Commit u) (so_far_all (Commit u) has) in
           ⊎_elim
-          (λ (before : Among earlier by.0). (by.0, before, told.0, told.1))
-          (λ (others : Among (o ∷ later) by.0). ⊎_elim
-          (λ (is : o ≡ by.0). absurd (not_yet (subst (λ (t : Transid). Among so_far (Commit t)) (sym (ap (λ (v : Outcome). v.tx) is ∙ told.0)) has)))
-          (λ (behind_ : Among later by.0). absurd (later_unbegun by.0 behind_ (subst (λ (t : Transid). HasBegun front t) (sym told.0) (so_far_begun (Commit u) u has refl))))
+          (λ (before : Among earlier by.outcome).
+          let told = commit_told by.outcome.tx u by.outcome.told
+          (commit_left law phase items outcomes found log broken given u by.outcome by.outcome.told (e_going by.outcome before) by.tx_is refl by.is_so) in
+          (by.outcome, before, told.0, told.1))
+          (λ (others : Among (o ∷ later) by.outcome). ⊎_elim
+          (λ (is : o ≡ by.outcome). absurd (not_yet (subst (λ (t : Transid). Among so_far (Commit t)) (sym (ap (λ (v : Outcome). v.tx) is ∙ by.tx_is)) has)))
+          (λ (behind_ : Among later by.outcome). absurd (later_unbegun by.outcome behind_ (subst (λ (t : Transid). HasBegun front t) (sym by.tx_is) (so_far_begun (Commit u) u has refl))))
           others)
-          (among_append earlier (o ∷ later) by.0 (subst (λ (l : List Outcome). Among l by.0) whole by.1))
+          (among_append earlier (o ∷ later) by.outcome (subst (λ (l : List Outcome). Among l by.outcome) whole by.among))
 
       -- an earlier outcome that tells of a commit has carried out its transaction
       is_done : (e : Outcome) (place : ℕ) (reads : List (ℕ × Option (List ℕ))) → Among earlier e → e.told ≡ Committed place reads
@@ -290,19 +305,18 @@ module _ (law : EventsLaw) (holder_law : HolderLaw) (done_law : DoneLaw) (phase 
           effect_same d.0 (steps_done c.0.tx front) map_ d.2 (earlier_done c.0 c.1 ∙ d.3) ∙ ap (λ (x : Option Transaction). after_commit x map_) (sym d.1) in
           subst (λ (t : Transid). after_commit (Some (done front t)) map_ ≡ after_commit (script_transaction phase found.epoch t) map_) c.2 at_e
 
-      -- a record of this outcome, or of a later one, that is among them changes nothing
-      one_idle : (x : MonitorRecord) → Among so_far x → Among (records_left (o ∷ later)) x → IsIdle (script_transaction phase found.epoch) x
+      -- none of the commits among them stands behind what the outcomes before leave
+      one_idle : (x : MonitorRecord) → Among so_far x → Among before_it.0 x → IsIdle (script_transaction phase found.epoch) x
       one_idle (Start epoch) has there = tt
       one_idle (Abort u) has there = tt
       one_idle (Commit u) has there =
-          let by = left_by (o ∷ later) (Commit u) there in
-          let told = commit_told by.0.tx u by.0.told by.2 in
-          absurd (⊎_elim
-          (λ (is : o ≡ by.0). not_yet (subst (λ (t : Transid). Among so_far (Commit t)) (sym (ap (λ (v : Outcome). v.tx) is ∙ told.0)) has))
-          (λ (behind_ : Among later by.0). later_unbegun by.0 behind_ (subst (λ (t : Transid). HasBegun front t) (sym told.0) (so_far_begun (Commit u) u has refl)))
-          by.1)
+          let by = commit_from u has in
+          let left : IsLeftBy by.0 (Commit u) = ap (λ (how : Told). end_record by.0.tx how) by.3.2 ∙ ap (λ (t : Transid). Some (Commit t)) by.2 in
+          let before = among_given (λ (e : Outcome). end_record e.tx e.told) earlier by.0 (Commit u) by.1 left in
+          let in_two : AreInRow (records_left earlier ++ before_it.0) = subst (λ (l : List MonitorRecord). AreInRow l) (first_of_all.1 ∙ before_it.1) in_row in
+          absurd (not_before u (row_across (records_left earlier) before_it.0 (Commit u) (Commit u) in_two before there u u refl refl refl))
 
-      -- and so does one of an earlier outcome that is not among them
+      -- what an outcome before leaves that is not among them changes nothing
       other_idle : (x : MonitorRecord) → Among (records_left earlier) x → Among first_of_all.0 x → IsIdle (script_transaction phase found.epoch) x
       other_idle (Start epoch) has there = tt
       other_idle (Abort u) has there = tt
@@ -311,8 +325,8 @@ module _ (law : EventsLaw) (holder_law : HolderLaw) (done_law : DoneLaw) (phase 
           let told = commit_told by.0.tx u by.0.told by.2 in
           subst (λ (t : Transid). (map_ : RecordMap) → after_commit (script_transaction phase found.epoch t) map_ ≡ map_) told.0
           (by_deeds by.0 by.1 (is_done by.0 told.1.0 told.1.1 by.1 told.1.2) (deeds_of by.0.tx log) refl (subst (λ (t : Transid). Among first_of_all.0 (Commit t)) (sym told.0) there)
-          (subst (λ (t : Transid). Among (landed phase items outcomes found log broken) (Commit t)) (sym told.0) (subst (λ (l : List MonitorRecord). Among l (Commit u)) (sym (landed_left law phase items outcomes found log broken given))
-          (subst (λ (l : List MonitorRecord). Among l (Commit u)) first_of_all.1 (among_right so_far first_of_all.0 (Commit u) there)))))
+          (subst (λ (t : Transid). Among (landed phase items outcomes found log broken) (Commit t)) (sym told.0)
+          (subst (λ (l : List MonitorRecord). Among l (Commit u)) first_of_all.1 (among_right so_far first_of_all.0 (Commit u) there))))
         where
           by_deeds : (e : Outcome) → Among earlier e
               → ((transaction : Transaction) × (script_transaction phase found.epoch e.tx ≡ Some transaction) × (transaction.close ≡ CommitClose) × (steps_done e.tx log ≡ transaction.steps))
@@ -323,17 +337,15 @@ module _ (law : EventsLaw) (holder_law : HolderLaw) (done_law : DoneLaw) (phase 
           by_deeds e has_ d (deed ∷ deeds) some there_ committed map_ =
               let listed = done_enlisted law found log given.history e.tx deed (subst (λ (l : List Deed). Among l deed) (sym some) (inl refl)) in
               let before = released_commit e.tx listed.0 (earlier_released e has_ listed.0 listed.1) committed in
-              let in_row : AreInRow (so_far ++ first_of_all.0) = subst (λ (l : List MonitorRecord). AreInRow l) (all_left law phase items outcomes found log broken given ∙ sym first_of_all.1) (row law phase items outcomes found log broken given) in
               absurd (not_before e.tx (row_across so_far first_of_all.0 (Commit e.tx) (Commit e.tx) in_row before there_ e.tx e.tx refl refl refl))
 
       -- the commits so far come to what the outcomes before leave
       pub comes_to : (map_ : RecordMap) → Agree (after_list front so_far map_) (map_left phase found.epoch earlier map_)
       comes_to map_ =
-          let cut_records : so_far ++ first_of_all.0 ≡ records_left earlier ++ records_left (o ∷ later) =
-          first_of_all.1 ∙ (ap (λ (l : List Outcome). records_left l) whole ∙ filter_map-append (λ (outcome : Outcome). end_record outcome.tx outcome.told) earlier (o ∷ later)) in
+          let cut_records : so_far ++ first_of_all.0 ≡ records_left earlier ++ before_it.0 = first_of_all.1 ∙ before_it.1 in
           let same : after_list front so_far map_ ≡ map_left phase found.epoch earlier map_ =
           done_law front so_far map_ ∙ (same_meaning (λ t. Some (done front t)) (script_transaction phase found.epoch) so_far map_ same_as_script
-          ∙ same_fold (script_transaction phase found.epoch) so_far first_of_all.0 (records_left earlier) (records_left (o ∷ later)) map_ cut_records one_idle other_idle) in
+          ∙ same_fold (script_transaction phase found.epoch) so_far first_of_all.0 (records_left earlier) before_it.0 map_ cut_records one_idle other_idle) in
           λ file key. ap (λ (v : RecordMap). v file key) same
 
       -- NOBODY ELSE

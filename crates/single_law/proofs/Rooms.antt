@@ -1,6 +1,6 @@
 -- Each put of an attempt that is alone at its discs has found room there, and one that was turned away for want of room had none.
 use Rattle.std.specs.Prelude.{◌≡◌, ℕ, zero, suc, ◌≤◌, Bool, true, false, if◌then◌else◌, List, [], ◌∷◌, ◌++◌, length, map, take, bytes_eq, Option, Some, None, IsSome, slice_get}
-use Rattle.std.specs.List.{AllByRecursion, IsDistinct, cons_option, filter_map}
+use Rattle.std.specs.List.{AllByRecursion, IsDistinct, cons_option}
 use Rattle.std.proofs.Common.{refl, ap, sym, ◌∙◌, subst, arith, append_assoc, append-nil, ⊎_elim, inl, inr}
 use Rattle.std.proofs.lemmas.Slice.Eq.{bytes_eq-Decides}
 use Rattle.chronicle.specs.Histories.{IsEnabled, IsHistory, IsTrueIn, states_after}
@@ -37,7 +37,7 @@ use Rattle.node_machine.proofs.Placed.{parts_placed}
 use Rattle.single_law.proofs.Acting.{deeds_filtered}
 use Rattle.single_law.proofs.Changes.{are_changes, it_is}
 use Rattle.single_law.proofs.Found.{has_values}
-use Rattle.single_law.proofs.Given.{given_by}
+use Rattle.single_law.proofs.Given.{among_given, given_by}
 use Rattle.single_law.proofs.Moments.{among_cut, among_disc, among_map, front_log, had, next_enabled, stands}
 use Rattle.single_law.proofs.Served.{Agree, deed_in, deeds_append, deeds_step}
 use Rattle.single_law.proofs.Values.{IsAlwaysAlone, of_told, part_of, present}
@@ -76,17 +76,6 @@ few_distinct (x ∷ xs) ys distinct there =
     omega (arith, rest, count)
 
 -- DEEDS AND ENTRIES
-
-among_given : {A B : Type 0} (f : A → Option B) (xs : List A) (x : A) (y : B) → Among xs x → f x ≡ Some y → Among (filter_map f xs) y
-among_given f [] x y has is = has
-among_given {A} {B} f (z ∷ xs) x y has is = ⊎_elim
-    (λ (same : z ≡ x). subst (λ (o : Option B). Among (cons_option o (filter_map f xs)) y) (sym (ap f same ∙ is)) (inl refl))
-    (λ (later : Among xs x). by_case (f z) (among_given f xs x y later is))
-    has
-  where
-    by_case : (o : Option B) → Among (filter_map f xs) y → Among (cons_option o (filter_map f xs)) y
-    by_case None there = there
-    by_case (Some w) there = inr there
 
 -- an entry is a change of the attempt
 abbrev IsWrite : Transid → ℕ × Event → AuditRecord → Op → Type 0

@@ -1,6 +1,6 @@
 -- What a run of one worker makes of a node that is up.
-use Rattle.std.specs.Prelude.{◌≡◌, ℕ, false, List, [], ◌∷◌, ◌++◌, Contains, slice_get, Option}
-use Rattle.std.proofs.Common.{suc, ◌∙◌, subst, arith, inl, inr}
+use Rattle.std.specs.Prelude.{◌≡◌, ℕ, false, List, [], ◌∷◌, ◌++◌, Contains, length, slice_get, take, Option}
+use Rattle.std.proofs.Common.{suc, refl, ap, sym, ◌∙◌, subst, arith, inl, inr}
 use Rattle.chronicle.specs.Histories.{IsHistory, states_after}
 use Rattle.disk_model.specs.Devices.{held_at}
 use Rattle.disk_model.specs.Held.{Held}
@@ -33,10 +33,11 @@ use Rattle.run_outcomes.specs.declared.outcome.Outcome.{Outcome}
 use Rattle.run_standing.proofs.Opening.{AllTold, opening, stood}
 use Rattle.run_standing.proofs.Stands.{all_tell}
 use Rattle.run_standing.specs.NodeUp.{IsNodeUp}
-use Rattle.single_law.proofs.Ended.{have_ended}
-use Rattle.single_law.proofs.Given.{IsGiven}
+use Rattle.single_law.proofs.Ended.{have_ended, have_ended_to, take_whole}
+use Rattle.single_law.proofs.Given.{IsGiven, front_among, front_number}
 use Rattle.single_law.proofs.Landed.{all_left, landed_left, none_offered, row}
 use Rattle.single_law.proofs.Standing.{HasMadeSo, made_by}
+use Rattle.single_law.specs.Front.{FrontLaw, HaveEndedTo}
 use Rattle.single_law.specs.Row.{AreInRow}
 use Rattle.single_law.specs.Single.{IsRunAlone, SingleLaw}
 
@@ -62,47 +63,70 @@ module _ {D : Type 0} (kind : disk.Ghosts D) (phase : Phase) (items : List Item)
     pub over : IsFoundOver config told epoch found
     pub attempts : AreOutcomesOf phase epoch outcomes
     pub told_of : AreTold (account_of (fuse_kind kind) config phase epoch (λ number. slice_get old number) found log) outcomes
-    pub made : HasMadeSo kind phase old new outcomes list map_ found log config epoch
 
   module _ (done_law : DoneLaw) (events_law : EventsLaw) (holder_law : HolderLaw) (live_law : LiveLaw) (reads_law : ReadsLaw) (all_told : AllTold told held)
       (history : IsHistory node (opening_parts found) log) (one : phase.workers ≡ items ∷ [])
       (records : (item : MonitorRecord) → Among (recorded (monitor_events states) ++ offered_car (monitor_events states)) item → IsRecordOf outcomes item)
-      (goes : (outcome : Outcome) → Among outcomes outcome → is_last outcome.told ≡ false) (run : IsRunOf found.config found.epoch) where
+      (count : ℕ) (goes : (outcome : Outcome) → Among (take count outcomes) outcome → is_last outcome.told ≡ false) (run : IsRunOf found.config found.epoch) where
     opened : IsOpening (rules_of found.config) held (stood found told held list map_ all_told run.valid run.up run.over).bases (stood found told held list map_ all_told run.valid run.up run.over).dumps list map_ found
     opened = opening found told held list map_ all_told run.valid run.up run.over
 
-    given : IsGiven phase items outcomes found log (IsBroken (fuse_kind kind) found.config (λ number. slice_get old number))
-    given = record { one = one; history = history; attempts = run.attempts; told = run.told_of; records = records; goes = goes }
+    abbrev given : IsGiven phase items outcomes found log (IsBroken (fuse_kind kind) found.config (λ number. slice_get old number))
+    given = record { count = count; one = one; history = history; attempts = run.attempts; told = run.told_of; records = records; goes = goes }
 
-    alone : IsRunAlone kind.held found.config phase found.epoch items list map_ outcomes old new
-    alone = record {
+    front : HaveEndedTo found.config phase found.epoch items list map_ outcomes count
+    front = have_ended_to events_law holder_law done_law live_law reads_law (rules_of found.config) held (stood found told held list map_ all_told run.valid run.up run.over).bases
+        (stood found told held list map_ all_told run.valid run.up run.over).dumps list map_ phase items outcomes found opened log (IsBroken (fuse_kind kind) found.config (λ number. slice_get old number)) given
+
+    alone : HasMadeSo kind phase old new outcomes list map_ found log found.config found.epoch → length outcomes ≡ count → IsRunAlone kind.held found.config phase found.epoch items list map_ outcomes old new
+    alone made all = record {
       ended = have_ended events_law holder_law done_law live_law reads_law (rules_of found.config) held (stood found told held list map_ all_told run.valid run.up run.over).bases
-          (stood found told held list map_ all_told run.valid run.up run.over).dumps list map_ phase items outcomes found opened log (IsBroken (fuse_kind kind) found.config (λ number. slice_get old number)) given;
-      made = run.made.0;
-      landed = run.made.1 ∙ landed_left events_law phase items outcomes found log (IsBroken (fuse_kind kind) found.config (λ number. slice_get old number)) given;
-      offered = run.made.2 ∙ none_offered events_law phase items outcomes found log (IsBroken (fuse_kind kind) found.config (λ number. slice_get old number)) given;
-      row = subst AreInRow (all_left events_law phase items outcomes found log (IsBroken (fuse_kind kind) found.config (λ number. slice_get old number)) given) (row events_law phase items outcomes found log (IsBroken (fuse_kind kind) found.config (λ number. slice_get old number)) given);
+          (stood found told held list map_ all_told run.valid run.up run.over).dumps list map_ phase items outcomes found opened log (IsBroken (fuse_kind kind) found.config (λ number. slice_get old number)) given
+          (omega (arith, all));
+      made = made.0;
+      landed = made.1 ∙ landed_left events_law phase items outcomes found log (IsBroken (fuse_kind kind) found.config (λ number. slice_get old number)) given whole;
+      offered = made.2 ∙ none_offered events_law phase items outcomes found log (IsBroken (fuse_kind kind) found.config (λ number. slice_get old number)) given whole;
+      row = subst AreInRow (all_left events_law phase items outcomes found log (IsBroken (fuse_kind kind) found.config (λ number. slice_get old number)) given whole)
+          (row events_law phase items outcomes found log (IsBroken (fuse_kind kind) found.config (λ number. slice_get old number)) given);
     }
+      where
+        whole : take count outcomes ≡ outcomes
+        whole = ap (λ (n : ℕ). take n outcomes) (sym all) ∙ take_whole outcomes
 
 -- what is so of a run gives this, whatever its configuration and epoch
 abbrev Gives : {D : Type 0} → disk.Ghosts D → Phase → List Item → (old new : List (Fuse D)) → List Outcome → List MonitorRecord → RecordMap → Found → Log → Config → ℕ → Type 0
-Gives kind phase items old new outcomes list map_ found log config epoch = IsRunOf kind phase items old new outcomes list map_ found log config epoch → IsRunAlone kind.held config phase epoch items list map_ outcomes old new
+Gives kind phase items old new outcomes list map_ found log config epoch =
+    IsRunOf kind phase items old new outcomes list map_ found log config epoch → HasMadeSo kind phase old new outcomes list map_ found log config epoch
+    → IsRunAlone kind.held config phase epoch items list map_ outcomes old new
 
 pub single_law : CrashLaw → DoneLaw → EventsLaw → HolderLaw → LiveLaw → ReadsLaw → {D : Type 0} (kind : disk.Ghosts D) → SingleLaw kind
 single_law crash_law done_law events_law holder_law live_law reads_law kind = λ config phase epoch items old new outcomes list map_ valid old_count new_count telling up one ran goes.
     let found = ran.found in
     let log = ran.log in
     let over = ran.opens in
-    let at_found : Gives kind phase items old new outcomes list map_ found log found.config found.epoch =
+    let at_found : Gives kind phase items old new outcomes list map_ found log found.config found.epoch = λ run made.
     alone kind phase items old new outcomes list map_ found log done_law events_law holder_law live_law reads_law (all_tell kind old old_count telling) ran.history one ran.records
-    (λ outcome has. goes outcome (contains outcomes outcome has)) in
+    (length outcomes) (λ outcome has. goes outcome (contains outcomes outcome (front_among (length outcomes) outcomes outcome has))) run made refl in
     subst (λ (c : Config). Gives kind phase items old new outcomes list map_ found log c epoch) over.config_is
     (subst (λ (e : ℕ). Gives kind phase items old new outcomes list map_ found log found.config e) over.epoch_is at_found)
-    (record {
-      valid = valid;
-      up = up;
-      over = over;
-      attempts = ran.attempts;
-      told_of = ran.told;
-      made = made_by crash_law done_law reads_law kind config phase epoch old new outcomes list map_ valid old_count new_count telling up ran;
-    })
+    (record { valid = valid; up = up; over = over; attempts = ran.attempts; told_of = ran.told })
+    (made_by crash_law done_law reads_law kind config phase epoch old new outcomes list map_ valid old_count new_count telling up ran)
+
+-- THE OUTCOMES BEFORE THE LAST
+
+-- so it is with this
+abbrev GivesFront : {D : Type 0} → disk.Ghosts D → Phase → List Item → (old new : List (Fuse D)) → List Outcome → List MonitorRecord → RecordMap → Found → Log → ℕ → Config → ℕ → Type 0
+GivesFront kind phase items old new outcomes list map_ found log count config epoch =
+    IsRunOf kind phase items old new outcomes list map_ found log config epoch → HaveEndedTo config phase epoch items list map_ outcomes count
+
+pub front_law : DoneLaw → EventsLaw → HolderLaw → LiveLaw → ReadsLaw → {D : Type 0} (kind : disk.Ghosts D) → FrontLaw kind
+front_law done_law events_law holder_law live_law reads_law kind = λ config phase epoch items old new outcomes list map_ valid old_count new_count telling up one ran count goes.
+    let found = ran.found in
+    let log = ran.log in
+    let over = ran.opens in
+    let at_found : GivesFront kind phase items old new outcomes list map_ found log count found.config found.epoch =
+    front kind phase items old new outcomes list map_ found log done_law events_law holder_law live_law reads_law (all_tell kind old old_count telling) ran.history one ran.records
+    count (λ outcome has. (let at = front_number count outcomes outcome has in goes at.0 outcome at.1 at.2)) in
+    subst (λ (c : Config). GivesFront kind phase items old new outcomes list map_ found log count c epoch) over.config_is
+    (subst (λ (e : ℕ). GivesFront kind phase items old new outcomes list map_ found log count found.config e) over.epoch_is at_found)
+    (record { valid = valid; up = up; over = over; attempts = ran.attempts; told_of = ran.told })

@@ -1,7 +1,6 @@
 -- What a run has made of a node that is up, with the records that its history has landed and offered.
 use Rattle.std.specs.Prelude.{◌≡◌, ◌⊎◌, ℕ, zero, suc, ◌+◌, ◌<◌, List, [], ◌∷◌, ◌++◌, Contains, length, drop, slice_get, take, Option, Some, Ok}
 use Rattle.std.proofs.Common.{refl, ap, ap₂, sym, ◌∙◌, subst, arith, append_assoc, ⊎_elim, inl, inr}
-use Rattle.std.proofs.lemmas.List.{take-append-drop}
 use Rattle.chronicle.specs.Histories.{IsHistory, states_after}
 use Rattle.disk_model.specs.Devices.{AreImages, DevicesTell, held_at}
 use Rattle.disk_model.specs.Held.{Held}
@@ -46,7 +45,7 @@ use Rattle.run_standing.proofs.Stands.{all_tell, stands_law}
 use Rattle.run_standing.specs.Made.{HasCommitted, HasMade, map_behind}
 use Rattle.run_standing.specs.NodeUp.{IsNodeUp}
 use Rattle.single_law.proofs.Folds.{same_meaning}
-use Rattle.single_law.proofs.Given.{list_around, monitor_there}
+use Rattle.single_law.proofs.Given.{front_among, list_around, monitor_there}
 use Rattle.single_law.proofs.Moment.{effect_same}
 use Rattle.single_law.proofs.Rows.{order_law}
 use Rattle.single_law.specs.Row.{AreInRow, RowLaw}
@@ -57,9 +56,6 @@ among : {T : Type 0} (xs : List T) (x : T) → Contains xs x → Among xs x
 among [] x (k, lt, is) = absurd (omega (arith, lt))
 among (y ∷ xs) x (zero, lt, is) = inl is
 among (y ∷ xs) x (suc k, lt, is) = inr (among xs x (k, omega (arith, lt), is))
-
-front_among : {T : Type 0} (n : ℕ) (xs : List T) (x : T) → Among (take n xs) x → Among xs x
-front_among n xs x there = subst (λ ys. Among ys x) (take-append-drop n xs) (among_left (take n xs) (drop n xs) x there)
 
 -- WHAT A COMMIT TELLS
 

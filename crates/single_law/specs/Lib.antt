@@ -1,4 +1,5 @@
 pub mod Ended
+pub mod Front
 pub mod Left
 pub mod NoDump
 pub mod One

@@ -1,5 +1,6 @@
 //! What holds of each run: of those that have one worker, of the row of its records, and of those that have transactions alone.
 ghost use Rattle.run_standing.specs.Telling.{telling};
+ghost use Rattle.single_law.specs.Front.{FrontLaw};
 ghost use Rattle.single_law.specs.NoDump.{NoDumpLaw};
 ghost use Rattle.single_law.specs.One.{OneEndLaw, OneRunLaw};
 ghost use Rattle.single_law.specs.Row.{OrderLaw, RowLaw};
@@ -37,6 +38,19 @@ pub fn single_law<D: Disk>()
     ensures known { SingleLaw (telling D.held D.faults) }
 {
     crash_law();
+    done_law();
+    events_law();
+    holder_law();
+    live_law();
+    reads_law();
+}
+
+/// Of a run of one worker over the devices of a node that is up, of which none of the first so many outcomes is the last that the worker carries out, each of these ends as its item does on
+/// the map that those before it leave. The same of devices of which no more is known than what they hold, and their counts.
+pub fn front_law<D: Disk>()
+    ensures ran { FrontLaw D.Disk }
+    ensures known { FrontLaw (telling D.held D.faults) }
+{
     done_law();
     events_law();
     holder_law();

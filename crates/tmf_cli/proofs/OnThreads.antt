@@ -24,6 +24,7 @@ use Rattle.run_standing.specs.Fit.{UndamagedLaw}
 use Rattle.run_standing.specs.Made.{HasMade}
 use Rattle.run_standing.specs.NodeUp.{IsNodeUp}
 use Rattle.run_standing.specs.Telling.{NotRunTellingLaw, TellingLaw}
+use Rattle.single_law.specs.Front.{FrontLaw, HaveEndedTo}
 use Rattle.single_law.specs.Left.{records_left}
 use Rattle.single_law.specs.NoDump.{AllTransactions, NoDumpLaw}
 use Rattle.single_law.specs.Row.{AreInRow, RowLaw}
@@ -48,7 +49,7 @@ use Rattle.tmf_cli.specs.declared.node.NodeState.{NodeState}
 use Rattle.tmf_cli.specs.declared.node.Up.{Up}
 use Rattle.tmf_cli.specs.BetweenActions.{HasBroken, HasDone, IfUp, IsReady, Knows, RestsUp, SameOthers, node_of}
 use Rattle.tmf_cli.specs.Lost.{IsPresent, up_for, workers_name_lost}
-use Rattle.tmf_cli.specs.OutputLaw.{AreExact, AreSettled, Candidate, IsRunLine, IsUnrunFor, MakesNoDump, MayStand, OneGoesOn, RunsWhole, down, with_records}
+use Rattle.tmf_cli.specs.OutputLaw.{AreExact, AreSettled, AreSettledTo, Candidate, IsRunLine, IsUnrunFor, MakesNoDump, MayStand, OneGoesOn, RunsWhole, down, with_records}
 use Rattle.tmf_cli.specs.RunLines.{run_lines}
 use Rattle.tmf_cli.specs.Single.{IsSingle, first_worker, items_of}
 use Rattle.tmf_cli.specs.Threads.{RunsBay}
@@ -185,7 +186,7 @@ module _ {D : Type 0} (kind : disk.Ghosts D) (config : Config) (phase : Phase) (
       lost-both (images (volume_device v)) (held_at held opened (volume_device v)) both.0 both.1 ∙ ap (λ (h : ℕ → Held). is_lost (h (volume_device v))) same_opened)
       ∙ lost
 
-  module _ (row_law : RowLaw kind) (single_law : SingleLaw kind) (no_dump_law : NoDumpLaw kind) (outcomes : List Outcome) (is_ok : result ≡ Ok outcomes) where
+  module _ (row_law : RowLaw kind) (single_law : SingleLaw kind) (no_dump_law : NoDumpLaw kind) (front_law : FrontLaw kind) (outcomes : List Outcome) (is_ok : result ≡ Ok outcomes) where
     has : HasRun (fuse_kind kind) config phase up.epoch opened closed outcomes
     has = subst (λ (r : Result (List Outcome) PhaseError). MatchResult r (HasRun (fuse_kind kind) config phase up.epoch opened closed) (HasNotRun (fuse_kind kind) config phase up.epoch opened closed)) is_ok bay.told
 
@@ -206,11 +207,25 @@ module _ {D : Type 0} (kind : disk.Ghosts D) (config : Config) (phase : Phase) (
         let made = row_law config phase up.epoch opened closed outcomes s.list s.map valid bay.opened_count bay.closed_count tell_opened (node-up s on) has in
         record { made = made.0; row = made.1; exact = λ single settled. absurd (never single settled) }
 
+    -- without a worker there is no outcome
+    no-outcomes : phase.workers ≡ [] → outcomes ≡ []
+    no-outcomes none = subst (λ (workers : List (List Item)). AreOfWorkers up.epoch 1 workers outcomes) none has.attempts
+
+    -- of a single run each outcome before one that ends its worker ends as its item does
+    ended : (s : Candidate) → IsNodeUp config (held_at held old) s.list s.map up.epoch → IsSingle phase → (count : ℕ) → AreSettledTo count outcomes → HaveEndedTo config phase up.epoch (items_of phase) s.list s.map outcomes count
+    ended s on single count settled = of phase.workers refl
+      where
+        of : (workers : List (List Item)) → phase.workers ≡ workers → HaveEndedTo config phase up.epoch (items_of phase) s.list s.map outcomes count
+        of [] none = record { each = λ number outcome lt at. absurd (none-some outcome (sym (ap (λ (os : List Outcome). slice_get os number) (no-outcomes none)) ∙ at)) }
+        of (items ∷ []) one = subst (λ (is : List Item). HaveEndedTo config phase up.epoch is s.list s.map outcomes count) (sym (ap first_worker one))
+            (front_law config phase up.epoch items opened closed outcomes s.list s.map valid bay.opened_count bay.closed_count tell_opened (node-up s on) one has count settled)
+        of (items ∷ other ∷ more) many = let few : length phase.workers ≤ 1 = single.few in let number = ap (λ (workers : List (List Item)). length workers) many in absurd (omega (arith, few, number))
+
     -- without a worker nothing is made
     goes-idle : (s : Candidate) → IsNodeUp config (held_at held old) s.list s.map up.epoch → phase.workers ≡ [] → Goes s
     goes-idle s on none =
         let made = row_law config phase up.epoch opened closed outcomes s.list s.map valid bay.opened_count bay.closed_count tell_opened (node-up s on) has in
-        let no_outcomes : outcomes ≡ [] = subst (λ (workers : List (List Item)). AreOfWorkers up.epoch 1 workers outcomes) none has.attempts in
+        let no_outcomes : outcomes ≡ [] = no-outcomes none in
         let no_records : made.0.landed ++ made.0.offered ≡ [] = none-of (made.0.landed ++ made.0.offered) (λ item there. of-none item (subst (λ os. IsRecordOf os item) no_outcomes (made.0.records item there))) in
         record {
           made = made.0;
@@ -252,7 +267,7 @@ module _ {D : Type 0} (kind : disk.Ghosts D) (config : Config) (phase : Phase) (
         let made = one.made in
         subst (λ xs. (after : Option (List Candidate)) × OneGoesOn config phase up.epoch (held_at held opened) outcomes (Some xs) after × MayStand held config new after) (sym is) (
           Some (with_records phase up.epoch made.landed s ∷ with_records phase up.epoch (made.landed ++ made.offered) s ∷ []),
-          (s, inl refl, node-up s on, record { landed = made.landed; offered = made.offered; records = made.records; committed = made.committed; row = one.row; exact = one.exact; candidates = refl }),
+          (s, inl refl, node-up s on, record { landed = made.landed; offered = made.offered; records = made.records; committed = made.committed; row = one.row; ended = ended s on; exact = one.exact; candidates = refl }),
           (λ images left.
               let left_closed = images-same held closed new images (switched-holds closed new bay.off held) left in
               let lost_is = left-lost s outcomes made lost images left_closed in

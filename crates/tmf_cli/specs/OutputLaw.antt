@@ -1,5 +1,5 @@
 -- The law of the output: which lines each action prints, by the state of the node and by what its devices stand for, and what it leaves of both.
-use Rattle.std.specs.Prelude.{◌≡◌, ◌≢◌, ◌⊎◌, ℕ, ◌≤◌, true, false, max, List, [], ◌∷◌, ◌++◌, length, flat_map, map, Contains, Option, Some, None, Ok, Err}
+use Rattle.std.specs.Prelude.{◌≡◌, ◌≢◌, ◌⊎◌, ℕ, ◌≤◌, ◌<◌, true, false, max, List, [], ◌∷◌, ◌++◌, length, slice_get, flat_map, map, Contains, Option, Some, None, Ok, Err}
 use Rattle.disk_model.specs.Held.{Held}
 use Rattle.disk_model.specs.Devices.{AreImages, DeviceAt, HoldSame, RoseAt, SameBut, held_at}
 use Rattle.disk_model.specs.declared.fuse.Fuse.{Fuse}
@@ -41,6 +41,7 @@ use Rattle.tmf_cli.specs.declared.node.NodeState.{NodeState}
 use Rattle.tmf_cli.specs.declared.node.Up.{Up}
 use Rattle.tmf_cli.specs.Countdown.{IsOn, KeepsCounts, Switches, kill_of}
 use Rattle.tmf_cli.specs.RunLines.{run_lines}
+use Rattle.single_law.specs.Front.{HaveEndedTo}
 use Rattle.single_law.specs.Left.{records_left}
 use Rattle.single_law.specs.Row.{AreInRow}
 use Rattle.single_law.specs.Single.{HaveEnded}
@@ -203,6 +204,10 @@ HasFailed faults config old new device = FailedAmong (IsUsed config) faults old 
 abbrev pub AreSettled : List Outcome → Type 0
 AreSettled outcomes = (outcome : Outcome) → Contains outcomes outcome → is_last outcome.told ≡ false
 
+-- none of the first so many outcomes is such a one
+abbrev pub AreSettledTo : ℕ → List Outcome → Type 0
+AreSettledTo count outcomes = (number : ℕ) (outcome : Outcome) → number < count → slice_get outcomes number ≡ Some outcome → is_last outcome.told ≡ false
+
 -- The outcomes of a single run over what stands so: each ends as its item does on the map that those before it leave, and their records are all that have landed.
 pub record AreExact (config : Config) (phase : Phase) (epoch : ℕ) (outcomes : List Outcome) (s : Candidate) (landed offered : List MonitorRecord) : Type 0 where
   pub ended : HaveEnded config phase epoch (items_of phase) s.list s.map outcomes
@@ -210,7 +215,8 @@ pub record AreExact (config : Config) (phase : Phase) (epoch : ℕ) (outcomes : 
   pub none_offered : offered ≡ []
 
 -- Of what may stand before a run this goes on: with the records that have landed, or with those that were offered too. Each record is of an outcome, and each transaction that is told
--- as committed has its own at its place, and has read what stood there. Those of one worker stand in the order of its attempts. The outcomes of a single run are exact, where none of them ends its worker.
+-- as committed has its own at its place, and has read what stood there. Those of one worker stand in the order of its attempts. Of a single run each outcome before one that ends its worker ends as its item does on the
+-- map that those before it leave; and where none ends it, they are exact.
 pub record GoesOn (config : Config) (phase : Phase) (epoch : ℕ) (outcomes : List Outcome) (s : Candidate) (after : Option (List Candidate)) : Type 0 where
   pub landed : List MonitorRecord
   pub offered : List MonitorRecord
@@ -218,6 +224,7 @@ pub record GoesOn (config : Config) (phase : Phase) (epoch : ℕ) (outcomes : Li
   pub committed : (outcome : Outcome) (place : ℕ) (reads : List (ℕ × Option (List ℕ))) → Contains outcomes outcome → outcome.told ≡ ToldCommitted place reads
       → HasCommitted phase epoch s.list s.map landed outcome.tx place reads
   pub row : AreInRow (landed ++ offered)
+  pub ended : IsSingle phase → (count : ℕ) → AreSettledTo count outcomes → HaveEndedTo config phase epoch (items_of phase) s.list s.map outcomes count
   pub exact : IsSingle phase → AreSettled outcomes → AreExact config phase epoch outcomes s landed offered
   pub candidates : after ≡ Some (with_records phase epoch landed s ∷ with_records phase epoch (landed ++ offered) s ∷ [])
 
