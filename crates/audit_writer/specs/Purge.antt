@@ -1,7 +1,8 @@
 -- Which files of a trail a purge removes, and what it makes of a writer.
 use Rattle.std.specs.Prelude.{◌≡◌, ◌⊎◌, ℕ, ◌<◌, ◌≤◌, max, List, [], ◌∷◌, ◌++◌, slice_index, IsTrue, Result, MatchResult}
 use Rattle.disk_model.specs.declared.disk.Disk as disk
-use Rattle.chronicle.specs.Seats.{own_events}
+use Rattle.disk_model.specs.Held.{HasCause}
+use Rattle.chronicle.specs.Seats.{Sight, own_events}
 use Rattle.trail_files.specs.declared.audit_record.AuditRecord.{AuditRecord}
 use Rattle.trail_files.specs.AuditRecord.{audit_format}
 use Rattle.trail_files.specs.Content.{Placed, Content, without_below}
@@ -13,6 +14,7 @@ use Rattle.node_machine.specs.declared.event.Event.TheVariants.{OfTrail}
 use Rattle.node_machine.specs.declared.event.TrailEvent.TheVariants.{Purge, Failed}
 use Rattle.node_machine.specs.Same.{Among}
 use Rattle.audit_writer.specs.Writer.{Writer}
+use Rattle.audit_writer.specs.Writes.{Writes}
 
 -- the record stands below what its disc has told
 abbrev pub IsSpent : List ℕ → AuditRecord → Type 0
@@ -49,3 +51,12 @@ HasPurged v w = (es : List Event) × (own_events w.seat.sight ≡ own_events v.s
 -- the same, and then a failed call
 abbrev pub HasPurgeStopped : {D : Type 0} → By → Writer D → Writer D → Type 0
 HasPurgeStopped by v w = (es : List Event) × (own_events w.seat.sight ≡ own_events v.seat.sight ++ (es ++ OfTrail (Failed by) ∷ [])) × AreOfPurge v.trail.least v.trail.file w.trail.least es
+
+-- A purge for a caller: exactly the files that no disc needs are gone, the part's events say so, and what waits stays. One that is refused has its
+-- cause in the device's count. The caller has seen what the writer has.
+pub record HasPurgedFor {D T E : Type 0} (kind : disk.Ghosts D) (by : By) (caller : Sight Event) (result : Result T E) (v w : Writer D) : Type 0 where
+  pub kept : Writes kind v w × (w.queue ≡ v.queue)
+  pub removes : HasRemoved kind v.bounds v.trail w.trail result
+  pub events : MatchResult result (λ _. HasPurged v w) (λ _. HasPurgeStopped by v w)
+  pub cause : HasCause (kind.faults v.trail.device) (kind.faults w.trail.device) result
+  pub same : caller.seen ≡ w.seat.sight.seen

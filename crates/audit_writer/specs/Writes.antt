@@ -2,7 +2,7 @@
 use Rattle.std.specs.Prelude.{◌≡◌, ◌≢◌, ◌⊎◌, ℕ, max, slice_index, ◌≤◌, ◌<◌, Bool, true, false, List, [], ◌∷◌, ◌++◌}
 use mathlib.Core.List.{IsPrefix}
 use Rattle.disk_model.specs.declared.disk.Disk as disk
-use Rattle.chronicle.specs.Seats.{own_events}
+use Rattle.chronicle.specs.Seats.{Sight, own_events}
 use Rattle.trail_files.specs.declared.audit_record.AuditRecord.{AuditRecord}
 use Rattle.trail_files.specs.Holds.{Keeps}
 use Rattle.node_machine.specs.declared.event.By.{By}
@@ -11,7 +11,7 @@ use Rattle.node_machine.specs.declared.event.Event.TheVariants.{OfTrail}
 use Rattle.node_machine.specs.declared.event.TrailEvent.TheVariants.{Offer, Land, Failed}
 use Rattle.node_machine.specs.Trail.{offered, trail_of, first_of}
 use Rattle.node_machine.specs.Same.{Among}
-use Rattle.audit_writer.specs.Writer.{Writer, handed_in}
+use Rattle.audit_writer.specs.Writer.{Writer, handed_in, with_bounds}
 
 -- Events by which batches come and go: a batch is offered where none is, and what is offered lands. Before and after them a batch is
 -- offered or none is.
@@ -75,3 +75,9 @@ pub record HasTold {D : Type 0} (v w : Writer D) : Type 0 where
 pub record IsRaised (disc bound : ℕ) (old new : List ℕ) : Type 0 where
   pub mine : slice_index new disc ≡ max (slice_index old disc) bound
   pub others : (d : ℕ) → d ≢ disc → slice_index new d ≡ slice_index old d
+
+-- a disc has told the writer a bound: of it the greater one counts, all else stays, and its seat has seen what the writer has
+pub record HasToldBound {D : Type 0} (disc bound : ℕ) (seat : Sight Event) (v w : Writer D) : Type 0 where
+  pub told : HasTold (with_bounds w.bounds v) w
+  pub raised : IsRaised disc bound v.bounds w.bounds
+  pub same : seat.seen ≡ w.seat.sight.seen

@@ -1,5 +1,6 @@
 //! The lock round a trail's writer, which shows the trail's number outside.
 ghost use Rattle.std.specs.Prelude.{◌≡◌, ◌≢◌, ◌⊎◌, ◌≤◌, ◌+◌, ◌-◌, ◌^◌, ◌++◌, ◌∷◌, [], ℕ, List, length, min, IsOk, OnOk, OnErr, IfErr, MatchResult};
+ghost use Rattle.disk_model.specs.Held.{HasCause};
 ghost use Rattle.chronicle.specs.Seats.{HasGrown, HasLearned, HasNewlySeen, Knows};
 ghost use Rattle.chronicle.specs.Histories.{events_of};
 ghost use Rattle.node_machine.specs.declared.event.Event.TheVariants.{OfTrail};
@@ -10,10 +11,10 @@ ghost use Rattle.node_machine.specs.Parts.Fact.{Durable, Floor};
 ghost use Rattle.trail_files.specs.declared.audit_record.AuditRecord.{AuditRecord};
 ghost use Rattle.audit_writer.specs.Drains.{Drains};
 ghost use Rattle.audit_writer.specs.Handing.{MayHand, Takes, disc_of, last_of};
-ghost use Rattle.audit_writer.specs.Locked.{HasFailed, IsFlushStop};
-ghost use Rattle.audit_writer.specs.Purge.{HasPurged, HasPurgeStopped, HasRemoved};
+ghost use Rattle.audit_writer.specs.Locked.{HasFailed, IsFlushStop, WasHeld};
+ghost use Rattle.audit_writer.specs.Purge.{HasPurged, HasPurgedFor, HasPurgeStopped, HasRemoved};
 ghost use Rattle.audit_writer.specs.Writer.{IsWriter, Writer, with_bounds};
-ghost use Rattle.audit_writer.specs.Writes.{HasTold, HasUpTo, HasWritten, IsRaised, Writes};
+ghost use Rattle.audit_writer.specs.Writes.{HasTold, HasToldBound, HasUpTo, HasWritten, IsRaised, Writes};
 
 use crate::name::DeviceRun;
 use crate::parcel::last;
@@ -59,11 +60,12 @@ impl<'a, D: Disk, J: DeviceRun<D>, const N: u8> WriterAt<'a, D, J, N> {
         ensures durable { OnOk result (records.now ≢ [] → Knows node J.opening disc.new (Durable (disc_of records.now) (last_of records.now))) }
         ensures kept { Drains D.Disk self.old.state self.new.state }
         ensures all { OnOk result (records.now ≢ [] → self.new.state.queue ≡ []) }
-        ensures events { MatchResult result (λ _. HasWritten self.old.state self.new.state) (IsFlushStop by self.old.state self.new.state) }
+        ensures events { MatchResult result (λ _. HasWritten self.old.state self.new.state) (IsFlushStop D.faults by self.old.state self.new.state) }
         ensures none { records.now ≡ [] → IsOk result × (self.new ≡ self.old) × (disc.new ≡ disc.old) }
         ensures grown { HasGrown disc.old disc.new }
         ensures learned { HasLearned node J.opening disc.old disc.new }
         ensures failed { IfErr result (HasFailed N by disc.old disc.new) }
+        ensures memory { IfErr result (λ e. e ≡ FlushRefused.NoMemory → disc.new ≡ disc.old) }
     {
         disc.lawful();
         let Some(last) = last(records) else {
@@ -124,6 +126,7 @@ impl<'a, D: Disk, J: DeviceRun<D>, const N: u8> WriterAt<'a, D, J, N> {
         ensures raised { IsRaised number bound self.old.state.bounds self.new.state.bounds }
         ensures grown { HasGrown disc.old disc.new }
         ensures learned { HasLearned node J.opening disc.old disc.new }
+        ensures same { disc.new.seen ≡ self.new.state.seat.sight.seen }
     {
         self.state.tell(disc, number, bound);
     }
@@ -136,6 +139,8 @@ impl<'a, D: Disk, J: DeviceRun<D>, const N: u8> WriterAt<'a, D, J, N> {
         ensures grown { HasGrown caller.old caller.new }
         ensures learned { HasLearned node J.opening caller.old caller.new }
         ensures failed { OnErr result (HasNewlySeen (trail_part N) (OfTrail (Failed by)) caller.old caller.new) }
+        ensures cause { HasCause (D.faults self.old.state.trail.device) (D.faults self.new.state.trail.device) result }
+        ensures same { caller.new.seen ≡ self.new.state.seat.sight.seen }
     {
         self.state.purge(caller, by)
     }
@@ -193,6 +198,7 @@ impl<'a, D: Disk, J: DeviceRun<D>> AuditWriter<'a, D, J> {
         ensures grown { HasGrown disc.old disc.new }
         ensures learned { HasLearned node J.opening disc.old disc.new }
         ensures failed { IfErr result (HasFailed (number_of self.now) by disc.old disc.new) }
+        ensures memory { IfErr result (λ e. e ≡ FlushRefused.NoMemory → disc.new ≡ disc.old) }
     {
         match self {
             AuditWriter::One(lock) => lock.lock(rt).flush(disc, by, records),
@@ -231,15 +237,14 @@ impl<'a, D: Disk, J: DeviceRun<D>> AuditWriter<'a, D, J> {
     pub fn tell<R: Wait>(&self, rt: &R, disc: &mut Seat<NodeMachine, J>, number: u8, bound: u64)
         requires small { number ≤ 8 }
         requires floor { Knows node J.opening disc.old (Floor number bound) }
+        ensures told { WasHeld (IsWriter D.Disk J.opening J.found J.rules J.faults J.premise J.devices) (number_of self.now) (HasToldBound number bound disc.new) }
         ensures grown { HasGrown disc.old disc.new }
         ensures learned { HasLearned node J.opening disc.old disc.new }
     {
-        match self {
-            AuditWriter::One(lock) => lock.lock(rt).tell(disc, number, bound),
-            AuditWriter::Two(lock) => lock.lock(rt).tell(disc, number, bound),
-            AuditWriter::Three(lock) => lock.lock(rt).tell(disc, number, bound),
-            AuditWriter::Four(lock) => lock.lock(rt).tell(disc, number, bound),
-        }
+        let mut writer = self.lock(rt);
+        writer.lawful();
+        writer.tell(disc, number, bound);
+        writer.lawful();
     }
 
     /// Removes the files before the present one that no disc needs. Where a call of the device fails, the caller has newly seen that.
@@ -249,16 +254,16 @@ impl<'a, D: Disk, J: DeviceRun<D>> AuditWriter<'a, D, J> {
         caller: &mut Seat<NodeMachine, J>,
         by: By,
     ) -> Result<(), DiskFault>
+        ensures purged { WasHeld (IsWriter D.Disk J.opening J.found J.rules J.faults J.premise J.devices) (number_of self.now) (HasPurgedFor D.Disk by caller.new result) }
         ensures grown { HasGrown caller.old caller.new }
         ensures learned { HasLearned node J.opening caller.old caller.new }
         ensures failed { OnErr result (HasNewlySeen (trail_part (number_of self.now)) (OfTrail (Failed by)) caller.old caller.new) }
     {
-        match self {
-            AuditWriter::One(lock) => lock.lock(rt).purge(caller, by),
-            AuditWriter::Two(lock) => lock.lock(rt).purge(caller, by),
-            AuditWriter::Three(lock) => lock.lock(rt).purge(caller, by),
-            AuditWriter::Four(lock) => lock.lock(rt).purge(caller, by),
-        }
+        let mut writer = self.lock(rt);
+        writer.lawful();
+        let purged = writer.purge(caller, by);
+        writer.lawful();
+        purged
     }
 
     /// Takes the lock, for several calls in one hold.
@@ -333,12 +338,13 @@ impl<'g, 'a, D: Disk, J: DeviceRun<D>> WriterGuard<'g, 'a, D, J> {
         requires may { records.now ≢ [] → MayHand J.opening J.found (J.rules (held_number self.old)) (held_number self.old) disc.old (disc_of records.now) records.now }
         ensures kept { Drains D.Disk (held_writer self.old) (held_writer self.new) }
         ensures all { OnOk result (records.now ≢ [] → (held_writer self.new).queue ≡ []) }
-        ensures events { MatchResult result (λ _. HasWritten (held_writer self.old) (held_writer self.new)) (IsFlushStop by (held_writer self.old) (held_writer self.new)) }
+        ensures events { MatchResult result (λ _. HasWritten (held_writer self.old) (held_writer self.new)) (IsFlushStop D.faults by (held_writer self.old) (held_writer self.new)) }
         ensures durable { OnOk result (records.now ≢ [] → Knows node J.opening disc.new (Durable (disc_of records.now) (last_of records.now))) }
         ensures none { records.now ≡ [] → IsOk result × (held_writer self.new ≡ held_writer self.old) × (disc.new ≡ disc.old) }
         ensures grown { HasGrown disc.old disc.new }
         ensures learned { HasLearned node J.opening disc.old disc.new }
         ensures failed { IfErr result (HasFailed (held_number self.old) by disc.old disc.new) }
+        ensures memory { IfErr result (λ e. e ≡ FlushRefused.NoMemory → disc.new ≡ disc.old) }
         ensures number { held_number self.new ≡ held_number self.old }
     {
         match self {
@@ -411,6 +417,7 @@ impl<'g, 'a, D: Disk, J: DeviceRun<D>> WriterGuard<'g, 'a, D, J> {
         ensures raised { IsRaised number bound (held_writer self.old).bounds (held_writer self.new).bounds }
         ensures grown { HasGrown disc.old disc.new }
         ensures learned { HasLearned node J.opening disc.old disc.new }
+        ensures same { disc.new.seen ≡ (held_writer self.new).seat.sight.seen }
         ensures number { held_number self.new ≡ held_number self.old }
     {
         match self {
@@ -429,6 +436,8 @@ impl<'g, 'a, D: Disk, J: DeviceRun<D>> WriterGuard<'g, 'a, D, J> {
         ensures grown { HasGrown caller.old caller.new }
         ensures learned { HasLearned node J.opening caller.old caller.new }
         ensures failed { OnErr result (HasNewlySeen (trail_part (held_number self.old)) (OfTrail (Failed by)) caller.old caller.new) }
+        ensures cause { HasCause (D.faults (held_writer self.old).trail.device) (D.faults (held_writer self.new).trail.device) result }
+        ensures same { caller.new.seen ≡ (held_writer self.new).seat.sight.seen }
         ensures number { held_number self.new ≡ held_number self.old }
     {
         match self {

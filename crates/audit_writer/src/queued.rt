@@ -1,6 +1,6 @@
 //! A trail's writer at its end of the queue through which discs hand in.
 ghost use Rattle.std.specs.Prelude.{◌≡◌, ◌≢◌, ◌^◌, ◌-◌, ◌<◌, ◌≤◌, [], Some, length, min, true, IsOk, OnOk, OnErr, IfOk, IfErr, MatchBool, MatchResult};
-ghost use Rattle.disk_model.specs.Held.{HasCause};
+ghost use Rattle.disk_model.specs.Held.{HasCause, Rose};
 ghost use Rattle.chronicle.specs.Seats.{HasGrown, HasLearned, HasNewlySeen, Knows};
 ghost use Rattle.chronicle.specs.Histories.{events_of};
 ghost use Rattle.node_machine.specs.declared.event.Event.TheVariants.{OfTrail};
@@ -343,12 +343,13 @@ impl<'a, D: Disk, J: DeviceRun<D>, Q: QueueName, const N: u8> QueuedWriter<'a, D
         ensures popped { OnOk result (records.now ≢ [] → HasMissed self.old.end self.new.end) }
         ensures told { records.now ≢ [] → IfOk result (λ empty. empty ≡ true → HasAllTold self.new) }
         ensures all { OnOk result (records.now ≢ [] → self.new.writer.queue ≡ []) }
-        ensures events { MatchResult result (λ _. HasWritten self.old.writer self.new.writer) (IsFlushStop by self.old.writer self.new.writer) }
+        ensures events { MatchResult result (λ _. HasWritten self.old.writer self.new.writer) (IsFlushStop D.faults by self.old.writer self.new.writer) }
         ensures durable { OnOk result (records.now ≢ [] → Knows node J.opening disc.new (Durable (disc_of records.now) (last_of records.now))) }
         ensures none { records.now ≡ [] → IsOk result × (self.new ≡ self.old) × (disc.new ≡ disc.old) }
         ensures grown { HasGrown disc.old disc.new }
         ensures learned { HasLearned node J.opening disc.old disc.new }
         ensures failed { IfErr result (HasFailed N by disc.old disc.new) }
+        ensures memory { IfErr result (λ e. e ≡ FlushRefused.NoMemory → disc.new ≡ disc.old) }
     {
         disc.lawful();
         let Some(last) = last(records) else {
@@ -372,7 +373,7 @@ impl<'a, D: Disk, J: DeviceRun<D>, Q: QueueName, const N: u8> QueuedWriter<'a, D
         ensures kept { Drains D.Disk self.old.writer self.new.writer × IsSameEnd self.old.end self.new.end }
         ensures popped { OnOk result (HasMissed self.old.end self.new.end) }
         ensures all { OnOk result (self.new.writer.queue ≡ []) }
-        ensures events { MatchResult result (λ _. HasWritten self.old.writer self.new.writer) (λ e. (e ≡ FlushRefused.Failed N) × HasStopped by self.old.writer self.new.writer) }
+        ensures events { MatchResult result (λ _. HasWritten self.old.writer self.new.writer) (λ e. (e ≡ FlushRefused.Failed N) × HasStopped by self.old.writer self.new.writer × Rose (D.faults self.old.writer.trail.device) (D.faults self.new.writer.trail.device)) }
         ensures told { IfOk result (λ empty. empty ≡ true → HasAllTold self.new) }
         ensures durable { OnOk result (Knows node J.opening caller.new (Durable disc position)) }
         ensures grown { HasGrown caller.old caller.new }
@@ -437,6 +438,7 @@ impl<'a, D: Disk, J: DeviceRun<D>, Q: QueueName, const N: u8> QueuedWriter<'a, D
         ensures raised { IsRaised number bound self.old.writer.bounds self.new.writer.bounds }
         ensures grown { HasGrown disc.old disc.new }
         ensures learned { HasLearned node J.opening disc.old disc.new }
+        ensures same { disc.new.seen ≡ self.new.writer.seat.sight.seen }
     {
         self.state.tell(disc, number, bound);
     }
@@ -450,6 +452,8 @@ impl<'a, D: Disk, J: DeviceRun<D>, Q: QueueName, const N: u8> QueuedWriter<'a, D
         ensures grown { HasGrown caller.old caller.new }
         ensures learned { HasLearned node J.opening caller.old caller.new }
         ensures failed { OnErr result (HasNewlySeen (trail_part N) (OfTrail (Failed by)) caller.old caller.new) }
+        ensures cause { HasCause (D.faults self.old.writer.trail.device) (D.faults self.new.writer.trail.device) result }
+        ensures same { caller.new.seen ≡ self.new.writer.seat.sight.seen }
     {
         self.state.purge(caller, by)
     }

@@ -9,9 +9,11 @@ ghost use Rattle.node_machine.specs.Node.{node};
 ghost use Rattle.node_machine.specs.Parts.Fact.{Durable, Floor};
 ghost use Rattle.node_machine.specs.Trail.{trail_of};
 ghost use Rattle.audit_writer.specs.Handing.{MayHand, disc_of, last_of};
-ghost use Rattle.audit_writer.specs.Locked.{HasFailed};
+ghost use Rattle.audit_writer.specs.Locked.{HasFailed, WasHeld};
 ghost use Rattle.audit_writer.specs.Parcels.{Has, IsReached, MayPush, WasFull, all_discs, has_pushed_to, holding, told_by, without_disc};
+ghost use Rattle.audit_writer.specs.Purge.{HasPurgedFor};
 ghost use Rattle.audit_writer.specs.Writer.{IsWriter, Writer};
+ghost use Rattle.audit_writer.specs.Writes.{HasToldBound};
 
 use crate::lock::FlushRefused;
 use crate::name::DeviceRun;
@@ -147,6 +149,7 @@ impl<'a, D: Disk, J: DeviceRun<D>, Q: QueueName, const N: u8> QueuedLock<'a, D, 
         ensures grown { HasGrown disc.old disc.new }
         ensures learned { HasLearned node J.opening disc.old disc.new }
         ensures failed { IfErr result (HasFailed N by disc.old disc.new) }
+        ensures memory { IfErr result (λ e. e ≡ FlushRefused.NoMemory → disc.new ≡ disc.old) }
     {
         disc.lawful();
         let Some(_) = last(records) else {
@@ -214,10 +217,14 @@ impl<'a, D: Disk, J: DeviceRun<D>, Q: QueueName, const N: u8> QueuedLock<'a, D, 
     pub fn tell<R: Wait>(&self, rt: &R, disc: &mut Seat<NodeMachine, J>, number: u8, bound: u64)
         requires small { number ≤ 8 }
         requires floor { Knows node J.opening disc.old (Floor number bound) }
+        ensures told { WasHeld (IsWriter D.Disk J.opening J.found J.rules J.faults J.premise J.devices) N (HasToldBound number bound disc.new) }
         ensures grown { HasGrown disc.old disc.new }
         ensures learned { HasLearned node J.opening disc.old disc.new }
     {
-        self.lock.lock(rt).tell(disc, number, bound);
+        let mut writer = self.lock.lock(rt);
+        writer.lawful();
+        writer.tell(disc, number, bound);
+        writer.lawful();
     }
 
     /// Removes the files before the present one that no disc needs. Where a call of the device fails, the caller has newly seen that.
@@ -227,11 +234,16 @@ impl<'a, D: Disk, J: DeviceRun<D>, Q: QueueName, const N: u8> QueuedLock<'a, D, 
         caller: &mut Seat<NodeMachine, J>,
         by: By,
     ) -> Result<(), DiskFault>
+        ensures purged { WasHeld (IsWriter D.Disk J.opening J.found J.rules J.faults J.premise J.devices) N (HasPurgedFor D.Disk by caller.new result) }
         ensures grown { HasGrown caller.old caller.new }
         ensures learned { HasLearned node J.opening caller.old caller.new }
         ensures failed { OnErr result (HasNewlySeen (trail_part N) (OfTrail (Failed by)) caller.old caller.new) }
     {
-        self.lock.lock(rt).purge(caller, by)
+        let mut writer = self.lock.lock(rt);
+        writer.lawful();
+        let purged = writer.purge(caller, by);
+        writer.lawful();
+        purged
     }
 
     /// Takes the lock, for several calls of the writer in one hold.

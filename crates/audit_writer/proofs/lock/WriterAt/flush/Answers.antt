@@ -10,6 +10,7 @@ use Rattle.audit_writer.specs.Handing.{disc_of, last_of}
 use Rattle.audit_writer.specs.Writer.{AreFrom}
 use Rattle.audit_writer.specs.Writes.{HasUpTo}
 use Rattle.audit_writer.proofs.Hand.{from_right}
+use Rattle.audit_writer.proofs.Joining.{rose_since}
 use Rattle.audit_writer.proofs.Locks.{last_behind, disc_behind, newly_then, learned_then}
 use Rattle.audit_writer.proofs.Queues.{still_some}
 use Rattle.audit_writer.proofs.Tying.{drains_none, drains_takes, drains_then, drains_writes, written_takes}
@@ -72,8 +73,10 @@ returns-in-Err-clause-events g c = c.in-Err.ensures.err.0
 pub returns-in-Err-flush_to-clause-events : goal.returns-in-Err-flush_to-clause-events
 returns-in-Err-flush_to-clause-events g c =
     let v = c.args.self.now.state in
-    let w = c.hand.new.self in
-    stopped_then c.args.by v w c.flush_to.new.self (written_takes v w c.in-Ok.ensures.takes) c.in-Err-flush_to.ensures.events
+    let w = c.hand.new.self in (
+      stopped_then c.args.by v w c.flush_to.new.self (written_takes v w c.in-Ok.ensures.takes) c.in-Err-flush_to.ensures.events,
+      rose_since g.D.Disk.faults v w c.flush_to.new.self c.in-Ok.ensures.takes.trail (c.in-Err-flush_to.ensures.cause.failed refl),
+    )
 
 pub returns-in-Ok-flush_to-clause-events : goal.returns-in-Ok-flush_to-clause-events
 returns-in-Ok-flush_to-clause-events g c =

@@ -7,7 +7,7 @@ use Rattle.audit_writer.specs.Handing.{disc_of, last_of}
 use Rattle.audit_writer.specs.Writer.{AreFrom}
 use Rattle.audit_writer.specs.Writes.{HasUpTo}
 use Rattle.audit_writer.proofs.Hand.{from_right}
-use Rattle.audit_writer.proofs.Joining.{flushed_behind, refused_then}
+use Rattle.audit_writer.proofs.Joining.{flushed_behind, names_device, no_memory, refused_then}
 use Rattle.audit_writer.proofs.Locks.{last_behind, disc_behind}
 use Rattle.audit_writer.proofs.Queues.{still_some}
 use Rattle.audit_writer.proofs.Tying.{drains_none, drains_takes, drains_then, end_same, end_then, missed_from, written_takes}
@@ -71,7 +71,12 @@ pub returns-in-Ok-clause-events : goal.returns-in-Ok-clause-events
 returns-in-Ok-clause-events g c =
     let v = c.args.self.now.writer in
     let w = c.hand.new.self.writer in
-    flushed_behind g.row.N c.args.by v w c.land_up_to.new.self.writer c.land_up_to.result (written_takes v w c.in-Ok.ensures.takes) c.land_up_to.ensures.events
+    flushed_behind g.D.Disk.faults g.row.N c.args.by v w c.land_up_to.new.self.writer c.land_up_to.result (written_takes v w c.in-Ok.ensures.takes) c.in-Ok.ensures.takes.trail c.land_up_to.ensures.events
+
+pub returns-in-Ok-clause-memory : goal.returns-in-Ok-clause-memory
+returns-in-Ok-clause-memory g c =
+    no_memory g.row.N c.land_up_to.result (c.land_up_to.new.caller ≡ c.args.disc.now)
+    (names_device g.D.Disk.faults g.row.N c.args.by c.hand.new.self.writer c.land_up_to.new.self.writer c.land_up_to.result c.land_up_to.ensures.events)
 
 pub returns-in-Ok-clause-popped : goal.returns-in-Ok-clause-popped
 returns-in-Ok-clause-popped g c =

@@ -2,6 +2,7 @@ use Rattle.std.proofs.Common.{ap, refl, arith}
 use Rattle.node_machine.specs.declared.event.Event.TheVariants.{OfTrail}
 use Rattle.node_machine.specs.declared.event.TrailEvent.TheVariants.{Failed}
 use Rattle.node_machine.specs.Opening.{trail_part}
+use Rattle.audit_writer.proofs.Joining.{rose_more}
 use Rattle.audit_writer.proofs.Locks.{newly_then}
 use Rattle.audit_writer.proofs.Tying.{drains_then, drains_writes, end_same, end_then, missed_same, told_drains, up_drains}
 use Rattle.audit_writer.proofs.Written.{stopped_then, written_then}
@@ -25,10 +26,18 @@ returns-in-Err-clause-kept g c =
     )
 
 pub returns-in_default-clause-events : goal.returns-in_default-clause-events
-returns-in_default-clause-events g c = (refl, c.in_default.ensures.events)
+returns-in_default-clause-events g c = (refl, c.in_default.ensures.events, c.in_default.ensures.cause.failed refl)
 
 pub returns-in-Err-clause-events : goal.returns-in-Err-clause-events
-returns-in-Err-clause-events g c = (refl, stopped_then c.args.by c.args.self.now.writer c.flush_queue.new.self.writer c.flush_to.new.self.writer c.in-Ok.ensures.events c.in-Err.ensures.events)
+returns-in-Err-clause-events g c =
+    let a = c.args.self.now.writer in
+    let b = c.flush_queue.new.self.writer in
+    let e = c.flush_to.new.self.writer in
+    let faults = g.D.Disk.faults in (
+      refl,
+      stopped_then c.args.by a b e c.in-Ok.ensures.events c.in-Err.ensures.events,
+      rose_more (faults a.trail.device) (faults b.trail.device) (faults e.trail.device) c.flush_queue.ensures.cause.later c.flush_to.ensures.cause.later (c.in-Err.ensures.cause.failed refl),
+    )
 
 pub returns-in-Ok-flush_to-clause-events : goal.returns-in-Ok-flush_to-clause-events
 returns-in-Ok-flush_to-clause-events g c = written_then c.args.self.now.writer c.flush_queue.new.self.writer c.flush_to.new.self.writer c.in-Ok.ensures.events c.in-Ok-flush_to.ensures.events
