@@ -12,7 +12,7 @@ use Rattle.tmf_model.specs.Config.{IsDeclared, IsNumber, IsValidConfig}
 use Rattle.tmf_model.specs.declared.config.Config.{Config}
 use Rattle.tmf_model.specs.declared.config.Volume.{Volume}
 use Rattle.trail_files.specs.declared.damage.Damage.{Damage}
-use Rattle.trail_replay.proofs.EachTrails.{there}
+use Rattle.trail_replay.proofs.Rows.{there}
 use Rattle.run_outcomes.specs.Attaching.{HasNext, HasStart, IsDumpFit, IsFit, IsLabelDamage, IsUnfitAt, IsVolumeLost, bad_dump_file}
 use Rattle.run_outcomes.specs.Devices.{TellUpTo, dump_device, held_by, volume_device}
 use Rattle.run_opening.specs.Dumps.{IsDumpRefused, SpellsStart}

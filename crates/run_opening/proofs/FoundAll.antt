@@ -24,7 +24,7 @@ use Rattle.trail_files.specs.Trail.{Rests}
 use Rattle.trail_files.specs.declared.audit_record.AuditRecord.{AuditRecord}
 use Rattle.trail_files.specs.declared.monitor_record.MonitorRecord.{MonitorRecord}
 use Rattle.trail_replay.specs.Rules.{rules_of}
-use Rattle.trail_replay.proofs.EachTrails.{there}
+use Rattle.trail_replay.proofs.Rows.{there}
 use Rattle.run_outcomes.specs.Devices.{dump_device, told_by, told_of, volume_device}
 use Rattle.run_outcomes.specs.Found.{IsFoundOver, ToldAudit, ToldBase, ToldDump, ToldList}
 use Rattle.run_opening.specs.Found.{AreBased, IsOnlyList, found_of, places_of, trail_of, volume_found, volume_of}

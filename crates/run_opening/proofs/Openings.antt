@@ -18,7 +18,7 @@ use Rattle.trail_files.specs.declared.audit_record.AuditRecord.{AuditRecord}
 use Rattle.trail_files.specs.declared.damage.Damage.{Damage}
 use Rattle.trail_replay.specs.Rules.{rules_of}
 use Rattle.trail_replay.specs.Texts.{IsAuditDamage}
-use Rattle.trail_replay.proofs.EachTrails.{there}
+use Rattle.trail_replay.proofs.Rows.{there}
 use Rattle.std.proofs.lemmas.List.Elements.{All-get_or}
 use Rattle.std.proofs.lemmas.Option.{slice_get-get_or}
 use Rattle.volume_restore.specs.Bases.{next_behind}

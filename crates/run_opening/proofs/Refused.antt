@@ -11,7 +11,7 @@ use Rattle.tmf_model.specs.declared.config.Config.{Config}
 use Rattle.tmf_model.specs.declared.script.Phase.{Phase}
 use Rattle.trail_files.specs.declared.damage.Damage.{Damage}
 use Rattle.trail_replay.specs.Opening.{IsReread}
-use Rattle.trail_replay.proofs.EachTrails.{there}
+use Rattle.trail_replay.proofs.Rows.{there}
 use Rattle.volume_restore.proofs.Takings.{later-itself}
 use Rattle.run_outcomes.specs.Attaching.{IsFirstUnfit, IsFit, IsUnfitAt}
 use Rattle.run_outcomes.specs.Devices.{AreReturned, CountRoseAt, IsUntouched, TellUpTo, dump_device, held_by, volume_device}

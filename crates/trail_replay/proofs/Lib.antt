@@ -1,12 +1,8 @@
-pub mod Closing
 pub mod CommitSets
-pub mod EachTrails
 pub mod Founds
 pub mod Homes
 pub mod Listings
-pub mod Opened
-pub mod Openings
 pub mod Passes
 pub mod Readings
 pub mod Replays
-pub mod Stops
+pub mod Rows

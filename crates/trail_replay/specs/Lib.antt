@@ -7,6 +7,4 @@ pub mod Opening
 pub mod Reading
 pub mod Replay
 pub mod Rules
-pub mod Stop
 pub mod Texts
-pub mod Trails

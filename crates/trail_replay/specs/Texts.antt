@@ -40,12 +40,3 @@ pub record IsFirstDamage (config : Config) (images : ℕ → Held) (device : ℕ
   pub is_trail : device ≤ length config.trails
   pub before : (n : ℕ) → n < device → NodeSpells config images n
   pub here : IsNodeDamage config images device damage
-
--- each trail's text is whole, the monitor's too
-abbrev pub AllSpell : Config → (ℕ → Held) → Type 0
-AllSpell config held = (number : ℕ) → number ≤ length config.trails → NodeSpells config held number
-
--- each trail's text is whole: the auxiliary trails spell this audit, by their numbers, and the monitor's spells this list
-pub record TrailsSpell (config : Config) (held : ℕ → Held) (audit : ℕ → List AuditRecord) (list : List MonitorRecord) : Type 0 where
-  pub monitor_spelled : Spells monitor_format (held 0) list
-  pub audit_spelled : (trail : ℕ) → 1 ≤ trail → trail ≤ length config.trails → Spells (audit_format (rules_of config trail)) (held trail) (audit trail)

@@ -1,6 +1,6 @@
 use Rattle.std.proofs.Common.{ℕ, List, ◌∷◌, length, drop, add-one, refl, sym, subst, ap, ◌∙◌, arith}
 use Rattle.std.proofs.lemmas.List.{length-drop}
-use Rattle.trail_replay.proofs.Openings.{drop-first}
+use Rattle.trail_replay.proofs.Rows.{drop-first}
 use Rattle.run_outcomes.specs.Run.{volumes_named}
 use Rattle.run_opening.specs.Opening.{AreOpenedSoFar, IsKeptAmong, IsRefusedAt}
 use Rattle.run_opening.specs.declared.kept.Kept.TheVariants as kept
