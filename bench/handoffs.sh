@@ -117,20 +117,23 @@ fn attempt() -> Transid
     }
 }
 
-fn next_change(position: u64) -> Option<AuditRecord>
+// The change, and the value that it puts, which the key has.
+fn next_change(position: u64) -> Option<(AuditRecord, Value)>
     requires { (1 ≤ position) × (position ≤ 4294967295) }
-    ensures { IfSome result (IsNextChange 1 position) }
+    ensures { IfSome result (λ c. IsNextChange 1 position c.1 c.0) }
 {
-    Some(AuditRecord {
+    let value = Value::new(b"v1").ok()?;
+    let change = AuditRecord {
         kind: AuditKind::Change,
         disc: 1,
         file: 1,
         tx: attempt(),
         position,
         key: Key::new(b"k1").ok()?,
-        before: None,
-        after: Some(Value::new(b"v1").ok()?),
-    })
+        before: Some(value),
+        after: Some(value),
+    };
+    Some((change, value))
 }
 
 // The first worker enlists the first disc.
@@ -161,8 +164,8 @@ fn change_next<J: NodeRun>(
     ensures { IfSome result (HasMadeLast J.opening done seat.new) }
 {
     let made = next_change(u64::from(done) + 1)?;
-    let change = &made;
-    chronicle.append(seat, &DiscEvent::Write(*change, Op::Del));
+    let change = &made.0;
+    chronicle.append(seat, &DiscEvent::Write(*change, Op::Put(made.1)));
     Some(*change)
 }
 
@@ -501,7 +504,7 @@ use Rattle.node_machine.specs.Node.{node}
 use Rattle.node_machine.specs.Parts.Fact.{Enlisted}
 use Rattle.node_machine.specs.declared.event.DiscEvent.TheVariants.{Write}
 use Rattle.node_machine.specs.declared.event.Event.TheVariants.{OfDisc}
-use Rattle.tmf_model.specs.declared.script.Op.TheVariants.{Del}
+use Rattle.tmf_model.specs.declared.script.Op.TheVariants.{Put}
 use Rattle.node_machine.proofs.Appending.{disc_may}
 use Rattle.two_discs.specs.TwoDiscs.{attempt_of}
 use Rattle.two_discs.proofs.Writing.{may_write, writing_more}
@@ -513,10 +516,11 @@ append-requires g c =
     let m = c.requires.made in
     let h = m.writing in
     let v = c.args.seat.now in
-    let r = c.in_ok-made.made in
+    let r = c.in_ok-made.made.0 in
+    let value = c.in_ok-made.made.1 in
     let new = c.in_ok-made.ensures in
     let many : c.from.result ≡ length m.records = c.from.ensures ∙ sym m.many in
-    disc_may o v h.part (Write r Del) h.at (may_write o 1 c.from.result m.records v r (inl refl) h many new)
+    disc_may o v h.part (Write r (Put value)) h.at (may_write o 1 c.from.result value m.records v r (inl refl) h many new)
     (subst (λ t. Knows node o v (Enlisted t h.part.number)) (sym new.tx) (subst (λ n. Knows node o v (Enlisted (attempt_of 1) n)) (sym h.number) h.enlisted))
 
 pub returns : goal.returns
@@ -524,13 +528,14 @@ returns g c =
     let o = g.J.Run.opening in
     let m = c.requires.made in
     let h = m.writing in
-    let r = c.in_ok-made.made in
+    let r = c.in_ok-made.made.0 in
+    let value = c.in_ok-made.made.1 in
     let many : c.from.result ≡ length m.records = c.from.ensures ∙ sym m.many in
     record {
       front = m.records;
       many = m.many;
-      writing = writing_more o 1 c.from.result m.records c.args.seat.now c.append.new.seat r h many c.in_ok-made.ensures
-          (c.append.ensures.state ∙ ap (λ s. option_map (λ s. node.step s (OfDisc (Write r Del))) s) h.at) c.append.ensures.knows;
+      writing = writing_more o 1 c.from.result value m.records c.args.seat.now c.append.new.seat r h many c.in_ok-made.ensures
+          (c.append.ensures.state ∙ ap (λ s. option_map (λ s. node.step s (OfDisc (Write r (Put value)))) s) h.at) c.append.ensures.knows;
     }
 PROOF
     cat >"$1/enlisted/Invariants.antt" <<'PROOF'

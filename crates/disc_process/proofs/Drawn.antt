@@ -1,5 +1,5 @@
 -- What the fields keep of their part, when a block is drawn.
-use Rattle.std.proofs.Common.{◌^◌, append-nil, nat_lt, ◌≡◌, inl, inr, ⊎_elim, ℕ, ◌+◌, ◌-◌, ◌<◌, ◌≤◌, Bool, true, false, List, [], ◌∷◌, ◌++◌, append_assoc, Result, Ok, Err, Option, Some, None, cond, is_some, refl, ap, sym, ◌∙◌, subst, arith}
+use Rattle.std.proofs.Common.{append-nil, ◌≡◌, inl, inr, ⊎_elim, ℕ, ◌+◌, ◌<◌, ◌≤◌, Bool, true, false, List, [], ◌∷◌, ◌++◌, append_assoc, Result, Ok, Err, Option, Some, None, cond, is_some, refl, ap, sym, ◌∙◌, subst, arith}
 use Rattle.std.specs.Option.{option_map, unwrap_or}
 use Rattle.std.specs.Prelude.{IfErr}
 use Rattle.chronicle.specs.Histories.{events_of}
@@ -12,10 +12,10 @@ use Rattle.node_machine.specs.declared.event.TrailEvent.TheVariants as trail_did
 use Rattle.audit_writer.specs.declared.lock.FlushRefused.{FlushRefused}
 use Rattle.audit_writer.specs.declared.lock.FlushRefused.TheVariants as refused
 use Rattle.audit_writer.specs.Locked.{HasFailed as HasTrailFailed}
-use Rattle.disk_model.specs.Held.{Rose}
+use Rattle.audit_writer.proofs.Joining.{rose_more}
 use Rattle.node_machine.specs.Opening.{trail_part}
 use Rattle.std.specs.List.{list_all}
-use Rattle.std.proofs.lemmas.Bool.{and_from, ltb-false, ltb-true}
+use Rattle.std.proofs.lemmas.Bool.{and_from}
 use Rattle.std.proofs.lemmas.List.Folds.{list_all-append}
 use Rattle.disc_process.specs.Draw.{AreDraws, HasDrawn, HasFailed, IsDrawRefusal, SameWork, drawings, endings, is_draw}
 use Rattle.chronicle.specs.Seats.{Sight, HasNewlySeen, Knows, own_events}
@@ -294,14 +294,6 @@ draws_then v m w xs are own h = record {
   are = more_draws xs h.drawn are h.are;
   events = h.events ∙ ap (λ ys. ys ++ h.drawn) own ∙ append_assoc (own_events v) xs h.drawn;
 }
-
--- a count that rose after one that did not fall
-pub rose_more : (a b c : ℕ) → a ≤ b → b ≤ c → Rose b c → Rose a c
-rose_more a b c ab bc rose below = of (nat_lt b (2 ^ 64 - 1)) refl
-  where
-    of : (t : Bool) → nat_lt b (2 ^ 64 - 1) ≡ t → a < c
-    of true e = (let lt = ltb-true b (2 ^ 64 - 1) e in let up = rose lt in omega (arith, ab, up))
-    of false e = (let ge = ltb-false b (2 ^ 64 - 1) e in omega (arith, ge, bc, below))
 
 -- a refusal after an earlier call
 pub refusal_more : {D : Type 0} (faults : D → ℕ) (by : By) (old mid new : DiscView D) (e : FlushRefused) (xs : List Event) → mid.part.config ≡ old.part.config → mid.part.number ≡ old.part.number

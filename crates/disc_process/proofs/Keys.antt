@@ -18,7 +18,7 @@ use Rattle.tmf_model.specs.declared.script.Step.{Step}
 use Rattle.tmf_model.specs.declared.transid.Transid.{Transid}
 use Rattle.trail_files.specs.MonitorOrder.{is_same_transid}
 use Rattle.trail_files.specs.declared.audit_record.AuditRecord.{AuditRecord}
-use Rattle.node_machine.specs.Disc.{HasRoomAt, HasRoomFor, IfTold, IsChange, IsNoOther, TakesRoom, TellsChange}
+use Rattle.node_machine.specs.Disc.{HasRoomAt, HasRoomFor, OfValues, IsChange, IsNoOther, TakesRoom, TellsChange}
 use Rattle.node_machine.specs.Made.{blocks_of, changes_left, file_holder, freed, has_released, holder, home_block, is_changing, kept_from, key_holder, map_of, values_after, volume_of}
 use Rattle.node_machine.specs.Parts.{DiscPart, Entry}
 use Rattle.node_machine.specs.Same.{Among, is_same_key}
@@ -232,11 +232,11 @@ module _ (s : DiscPart) (r : AuditRecord) (op : Op) (alone : HoldsAlone s.events
     map_written : HoldsMap (with_event s (did.Write r op)) (with_value r.file r.key r.after values)
     map_written = record { leads = λ t f k unreleased. leads_written t f k unreleased (is_same_transid r.tx t) refl; room = room_written }
 
-  map_of_write : (base : Option (List Entry)) → MapTold s base → IfTold base s.events (TellsChange s r op) → IsChange op → MapTold (with_event s (did.Write r op)) base
+  map_of_write : (base : Option (List Entry)) → MapTold s base → OfValues base s.events (TellsChange s r op) → IsChange op → MapTold (with_event s (did.Write r op)) base
   map_of_write None m tells changes = tt
   map_of_write (Some entries) m tells changes = map_written (values_after (map_of entries) s.events) m tells changes
 
-  pub keys_written : (is_some r.before || is_some r.after) ≡ true → IfTold s.base s.events (TellsChange s r op) → IsChange op → HoldsKeys (with_event s (did.Write r op))
+  pub keys_written : (is_some r.before || is_some r.after) ≡ true → OfValues s.base s.events (TellsChange s r op) → IsChange op → HoldsKeys (with_event s (did.Write r op))
   keys_written some tells changes = record {
     left = λ t x unreleased there. left_written some t x unreleased (is_same_transid r.tx t) refl there;
     map_told = map_of_write s.base h.map_told tells changes;

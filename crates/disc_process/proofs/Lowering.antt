@@ -33,7 +33,7 @@ use Rattle.disc_process.specs.Moves.{HoldsMoves, low_in}
 use Rattle.disc_process.specs.Release.{with_event}
 use Rattle.disc_process.proofs.Caches.{home_few}
 use Rattle.disc_process.proofs.Drawing.{self_block}
-use Rattle.disc_process.proofs.Drawn.{rose_more}
+use Rattle.audit_writer.proofs.Joining.{rose_more}
 use Rattle.disc_process.proofs.Keeping.{Leaves, LeavesLocks}
 use Rattle.disc_process.proofs.Lives.{none_of}
 use Rattle.disc_process.proofs.Moving.{quiet_moved}

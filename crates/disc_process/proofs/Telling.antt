@@ -24,8 +24,7 @@ use Rattle.tmf_model.specs.declared.script.Step.{Step}
 use Rattle.tmf_model.specs.Effect.{applied}
 use Rattle.disc_process.specs.declared.found.Found.{Found}
 use Rattle.tmf_model.specs.declared.transid.Transid.{Transid}
-use Rattle.node_machine.specs.declared.event.DiscEvent.{DiscEvent}
-use Rattle.node_machine.specs.Disc.{DiscAsks, DiscMay, IfTold, MayTake, TakesRoom, HasRoomFor, HasRoomAt, HasNoRoomFor, TellsChange}
+use Rattle.node_machine.specs.Disc.{DiscAsks, DiscMay, OfValues, MayTake, TakesRoom, HasRoomFor, HasRoomAt, HasNoRoomFor, TellsChange}
 use Rattle.node_machine.specs.Same.{Among}
 use Rattle.node_machine.specs.Made.{home_block, is_changing, map_of, values_after, volume_of}
 use Rattle.node_machine.specs.Parts.{Entry, DiscPart, Fact}
@@ -36,10 +35,6 @@ use Rattle.disc_process.specs.Disc.{AreKept, FindsIn, HoldsValues, IsHolding, To
 use Rattle.disc_process.specs.Found.{is_put}
 use Rattle.disc_process.specs.declared.found.Found.TheVariants as found
 use Rattle.disc_process.proofs.Founds.{Changes, full, put_is, read_found, refused}
-
-pub told_to : (base : Option (List Entry)) (events : List DiscEvent) (H Q : RecordMap → Type 0) → ((m : RecordMap) → H m → Q (values_after m events)) → ToldBy base H → IfTold base events Q
-told_to None events H Q more h = tt
-told_to (Some entries) events H Q more h = more (map_of entries) h
 
 pub told_by : (base : Option (List Entry)) (H Q : RecordMap → Type 0) → ((m : RecordMap) → H m → Q m) → ToldBy base H → ToldBy base Q
 told_by None H Q more h = tt
@@ -201,19 +196,29 @@ value_here tells held s blocks file number block here in_cache base h k home =
     ∙ ap (λ (n : ℕ). value_at (content blocks h.landed file n) k) (sym home)
     ∙ h.same file k here
 
-module _ {D : Type 0} (tells : D → Bool) (held : D → Held) (s : DiscPart) (blocks : View D) (file number : ℕ) (block : KeyedBlock) (kept : List (List ℕ)) (here : volume_of s.config file ≡ s.number) (in_cache : cached blocks file number ≡ Some block) (are : AreKept s file number kept) where
-  module _ (base : RecordMap) (h : HoldsValues tells held s blocks base) where
-    takes_room : (k : List ℕ) → home_block s.config file k ≡ number → TakesRoom (values_after base s.events) s.events file k → (has_key block k ≡ true) ⊎ (list_any (bytes_eq k) kept ≡ true)
+-- these are the values of the block's keys
+abbrev pub AreValuesOf : DiscPart → ℕ → ℕ → KeyedBlock → RecordMap → Type 0
+AreValuesOf s file number block values = (k : List ℕ) → home_block s.config file k ≡ number → value_at block k ≡ values file k
+
+-- what is said of any values that are the block's is said of those of its volume, or of some
+module _ {D : Type 0} (tells : D → Bool) (held : D → Held) (s : DiscPart) (blocks : View D) (file number : ℕ) (block : KeyedBlock) (here : volume_of s.config file ≡ s.number) (in_cache : cached blocks file number ≡ Some block) (says : RecordMap → Type 0) (more : (values : RecordMap) → AreValuesOf s file number block values → says values) where
+  pub of_values : (base : Option (List Entry)) → ToldBy base (HoldsValues tells held s blocks) → OfValues base s.events says
+  of_values None told = (λ f k. value_at block k, more (λ f k. value_at block k) (λ k home. refl))
+  of_values (Some entries) told = more (values_after (map_of entries) s.events) (λ k home. value_here tells held s blocks file number block here in_cache (map_of entries) told k home)
+
+module _ (s : DiscPart) (file number : ℕ) (block : KeyedBlock) (kept : List (List ℕ)) (are : AreKept s file number kept) where
+  module _ (values : RecordMap) (same : AreValuesOf s file number block values) where
+    takes_room : (k : List ℕ) → home_block s.config file k ≡ number → TakesRoom values s.events file k → (has_key block k ≡ true) ⊎ (list_any (bytes_eq k) kept ≡ true)
     takes_room k home t =
         ⊎_elim
-        (λ (some : IsSome ((values_after base s.events) file k)). inl (ap is_some (value_here tells held s blocks file number block here in_cache base h k home) ∙ some))
+        (λ (some : IsSome (values file k)). inl (ap is_some (same k home) ∙ some))
         (λ (changing : is_changing s.events file k ≡ true). inr (are.exact k ∙ both_true (is_changing s.events file k) (home_block s.config file k == number) changing (subst (λ (n : ℕ). (n == number) ≡ true) (sym home) (nat_eq_equiv.refl number))))
         t
 
-    pub has_room_for : (k : List ℕ) → home_block s.config file k ≡ number → has_room block kept k ≡ true → HasRoomFor s (values_after base s.events) file k
+    pub has_room_for : (k : List ℕ) → home_block s.config file k ≡ number → has_room block kept k ≡ true → HasRoomFor s values file k
     has_room_for k home room =
         ⊎_elim
-        (λ (present : has_key block k ≡ true). inl (inl (ap is_some (sym (value_here tells held s blocks file number block here in_cache base h k home)) ∙ present)))
+        (λ (present : has_key block k ≡ true). inl (inl (ap is_some (sym (same k home)) ∙ present)))
         (λ (rest : (list_any (bytes_eq k) kept || nat_lt (length (taken_keys block kept)) 62) ≡ true).
         ⊎_elim
         (λ (is_kept : list_any (bytes_eq k) kept ≡ true). inl (inr (and_first (is_changing s.events file k) (home_block s.config file k == number) (sym (are.exact k) ∙ is_kept))))
@@ -222,34 +227,34 @@ module _ {D : Type 0} (tells : D → Bool) (held : D → Held) (s : DiscPart) (b
         (or_cases (list_any (bytes_eq k) kept) (nat_lt (length (taken_keys block kept)) 62) rest))
         (or_cases (has_key block k) (list_any (bytes_eq k) kept || nat_lt (length (taken_keys block kept)) 62) room)
 
-module _ {D : Type 0} (tells : D → Bool) (held : D → Held) (s : DiscPart) (blocks : View D) (step : Step) (number : ℕ) (block : KeyedBlock) (what : Found) (here : volume_of s.config step.file ≡ s.number) (in_cache : cached blocks step.file number ≡ Some block) (finds : FindsIn s step number what block) (home : home_block s.config step.file step.key ≡ number) where
-  module _ (base : RecordMap) (h : HoldsValues tells held s blocks base) where
-    room_at : (op : Op) → (is_put op ≡ true → AreKept s step.file number finds.kept) → (is_put op ≡ true → has_room block finds.kept step.key ≡ true) → HasRoomAt s (values_after base s.events) step.file step.key op
-    room_at (Put v) are room = has_room_for tells held s blocks step.file number block finds.kept here in_cache (are refl) base h step.key home (room refl)
+module _ (s : DiscPart) (step : Step) (number : ℕ) (block : KeyedBlock) (what : Found) (finds : FindsIn s step number what block) (home : home_block s.config step.file step.key ≡ number) where
+  module _ (values : RecordMap) (same : AreValuesOf s step.file number block values) where
+    room_at : (op : Op) → (is_put op ≡ true → AreKept s step.file number finds.kept) → (is_put op ≡ true → has_room block finds.kept step.key ≡ true) → HasRoomAt s values step.file step.key op
+    room_at (Put v) are room = has_room_for s step.file number block finds.kept (are refl) values same step.key home (room refl)
     room_at (Add n) are room = tt
     room_at Del are room = tt
     room_at Read are room = tt
     room_at Lock are room = tt
 
-    value_is : value_at block step.key ≡ (values_after base s.events) step.file step.key
-    value_is = value_here tells held s blocks step.file number block here in_cache base h step.key home
+    value_is : value_at block step.key ≡ values step.file step.key
+    value_is = same step.key home
 
     -- what the block says of the change is what the volume says
-    pub tells_change : (t : Transid) (before after : Option (List ℕ)) → Changes block finds.kept step.op step.key before after → TellsChange s (record_of s t step before after) step.op (values_after base s.events)
+    pub tells_change : (t : Transid) (before after : Option (List ℕ)) → Changes block finds.kept step.op step.key before after → TellsChange s (record_of s t step before after) step.op values
     tells_change t before after c = record {
       before = c.was ∙ value_is;
       after = c.gives;
       room = room_at step.op finds.are c.room;
     }
 
-    pub tells_value : (value : Option (List ℕ)) → value ≡ value_at block step.key → value ≡ (values_after base s.events) step.file step.key
+    pub tells_value : (value : Option (List ℕ)) → value ≡ value_at block step.key → value ≡ values step.file step.key
     tells_value value is = is ∙ value_is
 
-    pub tells_refused : (reason : Reason) → applied step.op (value_at block step.key) ≡ Err reason → applied step.op ((values_after base s.events) step.file step.key) ≡ Err reason
+    pub tells_refused : (reason : Reason) → applied step.op (value_at block step.key) ≡ Err reason → applied step.op (values step.file step.key) ≡ Err reason
     tells_refused reason is = ap (applied step.op) (sym value_is) ∙ is
 
     -- the block's keys that take room are keys of the volume that do
-    pub tells_full : is_put step.op ≡ true → has_room block finds.kept step.key ≡ false → HasNoRoomFor s (values_after base s.events) step.file step.key
+    pub tells_full : is_put step.op ≡ true → has_room block finds.kept step.key ≡ false → HasNoRoomFor s values step.file step.key
     tells_full put full =
         let are = finds.are put in
         let parts = no_room (has_key block step.key) (list_any (bytes_eq step.key) finds.kept) (nat_lt (length (taken_keys block finds.kept)) 62) full in record {
@@ -261,7 +266,7 @@ module _ {D : Type 0} (tells : D → Bool) (held : D → Held) (s : DiscPart) (b
               ⊎_elim
               (λ (present : has_key block q ≡ true).
               (let at : home_block s.config step.file q ≡ number = finds.home q present in
-              (at ∙ sym home, inl (ap is_some (sym (value_here tells held s blocks step.file number block here in_cache base h q at)) ∙ present))))
+              (at ∙ sym home, inl (ap is_some (sym (same q at)) ∙ present))))
               (λ (is_kept : list_any (bytes_eq q) finds.kept ≡ true).
               (let both = and_both (is_changing s.events step.file q) (home_block s.config step.file q == number) (sym (are.exact q) ∙ is_kept) in
               (eqb-true (home_block s.config step.file q) number both.1 ∙ sym home, inr both.0)))
@@ -275,15 +280,15 @@ module _ {D : Type 0} (tells : D → Bool) (held : D → Held) (s : DiscPart) (b
   hold_for t takes true_ asks told (found.Value value) is holding = (
     record {
       takes = takes;
-      told = told_to s.base s.events (HoldsValues tells held s blocks) (λ v. value ≡ v step.file step.key) (λ v k. tells_value tells held s blocks step number block what here in_cache finds home v k value (read_found block finds.kept step value (finds.is ∙ is))) told;
+      told = of_values tells held s blocks step.file number block here in_cache (λ v. value ≡ v step.file step.key) (λ v same. tells_value s step number block what finds home v same value (read_found block finds.kept step value (finds.is ∙ is))) s.base told;
     },
     asks,
   )
   hold_for t takes true_ asks told (found.Refused reason) is holding =
-      ((takes, told_to s.base s.events (HoldsValues tells held s blocks) (λ v. applied step.op (v step.file step.key) ≡ Err reason) (λ v k. tells_refused tells held s blocks step number block what here in_cache finds home v k reason (refused block finds.kept step reason (finds.is ∙ is))) told), asks)
+      ((takes, of_values tells held s blocks step.file number block here in_cache (λ v. applied step.op (v step.file step.key) ≡ Err reason) (λ v same. tells_refused s step number block what finds home v same reason (refused block finds.kept step reason (finds.is ∙ is))) s.base told), asks)
   hold_for t takes true_ asks told found.Full is holding =
       let f = full block finds.kept step (finds.is ∙ is) in
-      ((takes, put_is step.op f.0, told_to s.base s.events (HoldsValues tells held s blocks) (λ v. HasNoRoomFor s v step.file step.key) (λ v k. tells_full tells held s blocks step number block what here in_cache finds home v k f.0 f.1) told), asks)
+      ((takes, put_is step.op f.0, of_values tells held s blocks step.file number block here in_cache (λ v. HasNoRoomFor s v step.file step.key) (λ v same. tells_full s step number block what finds home v same f.0 f.1) s.base told), asks)
   hold_for t takes true_ asks told found.Crowded is holding = absurd holding
   hold_for t takes true_ asks told (found.Change before after) is holding = absurd holding
 

@@ -28,7 +28,7 @@ use Rattle.node_machine.specs.Opening.{Found}
 use Rattle.node_laws.specs.Layouts.{layout, FileKey, FileBlock, Content, Change, is_same_content, gives}
 use Rattle.node_laws.specs.Views.{rec_of, recs_of, recs_made, change_of, base_of, way_of, pairs_of, any_disc, any_disc_event}
 use Rattle.node_laws.proofs.Fine.{IsFine, by_key}
-use Rattle.node_laws.proofs.Records.{made_recs, length-recs_made, left_recs, if_told}
+use Rattle.node_laws.proofs.Records.{made_recs, length-recs_made, left_recs, of_told_values}
 use Rattle.node_laws.proofs.Rooms.{roomy, full}
 
 same_content : (c : Content) → is_same_content c c ≡ true
@@ -155,7 +155,7 @@ module _ (found : Found) where
     op_room r op may o e =
         let is : Some (Some (r.before, r.after)) ≡ Some o = sym (ap (λ (k : AuditKind). change_of k r.before r.after) may.kind) ∙ e in
         let one : Some (r.before, r.after) ≡ o = cc (is) in
-        (refl, subst (λ (x : Option Change). HasRoom {N = layout found} (any_disc found s) (r.file, r.key) x) one (room_of r op may.op_changes (if_told s.base entries s.events (TellsChange s r op) told may.told)))
+        (refl, subst (λ (x : Option Change). HasRoom {N = layout found} (any_disc found s) (r.file, r.key) x) one (room_of r op may.op_changes (of_told_values s.base entries s.events (TellsChange s r op) told may.told)))
 
     quiet_of : (position : ℕ) → IsQuiet s position → AnyQuiet {N = layout found} (any_disc found s) position
     quiet_of position q = (
@@ -198,7 +198,7 @@ module _ (found : Found) where
 
     pub disc_allows : (e : DiscEvent) → DiscMay s e → allows_disc (layout found) (any_disc found s) (any_disc_event found e)
     disc_allows (Write r op) may =
-        let tells = if_told s.base entries s.events (TellsChange s r op) told may.told in (
+        let tells = of_told_values s.base entries s.events (TellsChange s r op) told may.told in (
           (may.takes.acts.unclosed, may.takes.acts.nothing_undone, may.takes.acts.unreleased),
           free_for r.tx r.file r.key may.takes.free,
           refl,
@@ -212,7 +212,7 @@ module _ (found : Found) where
     disc_allows (Read t file key value) may = (
       (may.takes.acts.unclosed, may.takes.acts.nothing_undone, may.takes.acts.unreleased),
       free_for t file key may.takes.free,
-      if_told s.base entries s.events (λ values. value ≡ values file key) told may.told,
+      of_told_values s.base entries s.events (λ values. value ≡ values file key) told may.told,
       on_disc file may.takes.here,
     )
     disc_allows (Lock t file) may = (
@@ -240,7 +240,7 @@ module _ (found : Found) where
     disc_allows (Turn t (Full step)) may = (
       (may.0.acts.unclosed, may.0.acts.nothing_undone, may.0.acts.unreleased),
       free_for t step.file step.key may.0.free,
-      full found s same step.file step.key (if_told s.base entries s.events (λ values. HasNoRoomFor s values step.file step.key) told may.2),
+      full found s same step.file step.key (of_told_values s.base entries s.events (λ values. HasNoRoomFor s values step.file step.key) told may.2),
     )
     disc_allows (Turn t (Refused step reason)) may = ((may.0.acts.unclosed, may.0.acts.nothing_undone, may.0.acts.unreleased), free_for t step.file step.key may.0.free, refl)
     disc_allows (Turn t Dumping) may = way_there (under_way s.events) may

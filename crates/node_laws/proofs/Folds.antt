@@ -38,7 +38,7 @@ use Rattle.node_machine.specs.Same.{is_same_key}
 use Rattle.node_laws.specs.Layouts.{layout, file_keys, FileKey, Content}
 use Rattle.node_laws.specs.Views.{rec_of, mons_of}
 use Rattle.node_laws.proofs.Others.{AreOld, HaveBlocks}
-use Rattle.node_laws.proofs.Records.{if_told}
+use Rattle.node_laws.proofs.Records.{of_told_values}
 use Rattle.node_laws.proofs.Seen.{AreFit}
 use Rattle.node_laws.proofs.Transfer.{any_log, fit_next}
 
@@ -223,7 +223,7 @@ module _ (found : Found) (before : List MonitorRecord) (values : ℕ → RecordM
     here : IsEnabled node ss (q, OfDisc (Write r op)) → (applied op r.before ≡ Ok r.after) × IsFile found r.file
     here (Disc s, at, may, asked) =
         let f = fit.each q (Disc s) at in
-        ((if_told s.base f.1.0 s.events (TellsChange s r op) f.1.1 may.told).after, (let one = volume_one s.number f.3.0 f.3.1 in let on : volume_of found.config r.file ≡ s.number = ap (λ c. volume_of c r.file) (sym f.0) ∙ may.takes.here in omega (arith, one, on)))
+        ((of_told_values s.base f.1.0 s.events (TellsChange s r op) f.1.1 may.told).after, (let one = volume_one s.number f.3.0 f.3.1 in let on : volume_of found.config r.file ≡ s.number = ap (λ c. volume_of c r.file) (sym f.0) ∙ may.takes.here in omega (arith, one, on)))
     here (Worker s, at, may, asked) = absurd may
     here (Trail s, at, may, asked) = absurd may
     here (Monitor s, at, may, asked) = absurd may

@@ -51,7 +51,7 @@ use Rattle.node_laws.proofs.Fine.{by_key}
 use Rattle.node_laws.proofs.Folds.{Agree, AreWrites, deeds_served, folds, volume_one, writes_of}
 use Rattle.node_laws.proofs.Opens.{V, audit, have_blocks, idle, old_closes, opening_fit, opens, values}
 use Rattle.node_laws.proofs.Others.{AreOld, HaveBlocks, landed_mons_of}
-use Rattle.node_laws.proofs.Records.{if_told}
+use Rattle.node_laws.proofs.Records.{of_told_values}
 use Rattle.node_laws.proofs.Seen.{AreFit, view_at, views}
 use Rattle.node_laws.proofs.Standing.{inside, inside_is}
 use Rattle.node_laws.proofs.Sums.{key_either}
@@ -283,11 +283,11 @@ module _ (rules : ℕ → Rules) (images : ℕ → Held) (bases dumps : ℕ → 
     turned Dumping may asked = tt
     turned (Full step) may asked =
         let f = fit_here.each (disc_part number) (Disc d) at_d in
-        let none = if_told d.base f.1.0 d.events (λ values. HasNoRoomFor d values step.file step.key) f.1.1 may.2 in
+        let none = of_told_values d.base f.1.0 d.events (λ values. HasNoRoomFor d values step.file step.key) f.1.1 may.2 in
         sym (taken step.file step.key may.0 asked) ∙ none.absent
     turned (Refused step reason) may asked =
         let f = fit_here.each (disc_part number) (Disc d) at_d in
-        ap (λ v. applied step.op v) (sym (taken step.file step.key may.0 asked)) ∙ if_told d.base f.1.0 d.events (λ values. applied step.op (values step.file step.key) ≡ Err reason) f.1.1 may.1
+        ap (λ v. applied step.op v) (sym (taken step.file step.key may.0 asked)) ∙ of_told_values d.base f.1.0 d.events (λ values. applied step.op (values step.file step.key) ≡ Err reason) f.1.1 may.1
 
   told_at : (m : MonitorPart) → slice_get NOW monitor_part ≡ Some (Monitor m) → (number : ℕ) (t : Transid) (cause : Cause) → IsEnabled node NOW (disc_part number, OfDisc (Turn t cause)) → IsToldOf (after_deeds (deeds_of t front) (after_list front (recorded m.events) map_)) cause
   told_at m at number t cause (Disc d, at_d, may, asked) = turned m at number d at_d t cause may asked

@@ -10,7 +10,7 @@ use Rattle.node_machine.specs.declared.event.DiscEvent.{DiscEvent}
 use Rattle.node_machine.specs.declared.event.DiscEvent.TheVariants.{Write, Read, Lock, Turn, Undo, Close as CloseEvent, Release, Draw, Drawn, Low, Lowered, Start, Raise, Failed}
 use Rattle.node_machine.specs.Parts.{Entry as FileEntry}
 use Rattle.node_machine.specs.Made.{made, changes_left, values_after}
-use Rattle.node_machine.specs.Disc.{IfTold}
+use Rattle.node_machine.specs.Disc.{OfValues}
 use Rattle.node_machine.specs.Opening.{Found}
 use Rattle.node_machine.specs.SameLaws.{same_is}
 use Rattle.node_laws.specs.Layouts.{layout}
@@ -76,6 +76,6 @@ module _ (found : Found) where
   left_recs (Failed by ∷ events) t = left_recs events t
 
 -- what is said of a volume's values where it tells them is said of them
-pub if_told : (base : Option (List FileEntry)) (entries : List FileEntry) (events : List DiscEvent) (says : RecordMap → Type 0) → base ≡ Some entries → IfTold base events says → says (values_after (base_of base) events)
-if_told None entries events says e h = absurd (cc (e))
-if_told (Some other) entries events says e h = h
+pub of_told_values : (base : Option (List FileEntry)) (entries : List FileEntry) (events : List DiscEvent) (says : RecordMap → Type 0) → base ≡ Some entries → OfValues base events says → says (values_after (base_of base) events)
+of_told_values None entries events says e h = absurd (cc (e))
+of_told_values (Some other) entries events says e h = h

@@ -29,7 +29,7 @@ use Rattle.node_machine.specs.Same.{is_same_block}
 use Rattle.node_machine.specs.Opening.{Found}
 use Rattle.node_laws.specs.Layouts.{layout, transids, file_keys, file_blocks, FileKey, FileBlock, Content}
 use Rattle.node_laws.specs.Views.{rec_of, recs_of, recs_made, recs_left, without_first, change_of, base_of, copies_of, any_worker, any_disc, any_trail, any_monitor, any_dump, any_worker_event, any_disc_event, any_trail_event, any_monitor_event, any_dump_event}
-use Rattle.node_laws.proofs.Records.{left_recs, length-recs_made, if_told}
+use Rattle.node_laws.proofs.Records.{left_recs, length-recs_made, of_told_values}
 
 module _ (found : Found) where
   pub worker_step : (number : ℕ) (events : List WorkerEvent) (e : WorkerEvent) → any_worker found number (e ∷ events) ≡ step_work (layout found) (any_worker found number events) (any_worker_event found e)
@@ -82,7 +82,7 @@ module _ (found : Found) where
       let values : RecordMap = values_after (base_of s.base) s.events in
       let left : recs_left found s.events r.tx ≡ rec_of found c ∷ recs_of found may.others = left_recs found s.events r.tx ∙ ap (recs_of found) may.newest in
       let key : (r.file, r.key) ≡ (c.file, c.key) = λ i. (may.file i, may.key i) in
-      let found_there : r.before ≡ values r.file r.key = if_told s.base told.0 s.events (λ v. r.before ≡ v r.file r.key) told.1 may.told in
+      let found_there : r.before ≡ values r.file r.key = of_told_values s.base told.0 s.events (λ v. r.before ≡ v r.file r.key) told.1 may.told in
       let before : r.before ≡ values c.file c.key = found_there ∙ ap (λ (k : FileKey). values k.0 k.1) key in
       let place : r.position ≡ s.first + length (recs_made found s.events) = may.position ∙ ap (λ n. s.first + n) (sym (length-recs_made found s.events)) in
       let kind : change_of r.kind r.before r.after ≡ None = ap (λ k. change_of k r.before r.after) may.kind in

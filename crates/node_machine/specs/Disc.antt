@@ -38,10 +38,10 @@ pub record IsOther (h t : Transid) : Type 0 where
 abbrev pub IsHere : DiscPart → ℕ → Type 0
 IsHere s file = volume_of s.config file ≡ s.number
 
--- this is said of the present values, where the volume tells any
-abbrev pub IfTold : Option (List Entry) → List DiscEvent → (RecordMap → Type 0) → Type 0
-IfTold None events says = Unit {0}
-IfTold (Some entries) events says = says (values_after (map_of entries) events)
+-- this is said of the present values; of a volume that tells none it is said of some values
+abbrev pub OfValues : Option (List Entry) → List DiscEvent → (RecordMap → Type 0) → Type 0
+OfValues None events says = (values : RecordMap) × says values
+OfValues (Some entries) events says = says (values_after (map_of entries) events)
 
 -- a transaction that may act has taken the key
 pub record MayTake (s : DiscPart) (t : Transid) (file : ℕ) (key : List ℕ) : Type 0 where
@@ -106,11 +106,11 @@ pub record MayWrite (s : DiscPart) (r : AuditRecord) (op : Op) : Type 0 where
   pub kind : r.kind ≡ Change
   pub disc : r.disc ≡ s.number
   pub position : r.position ≡ next_position s
-  pub told : IfTold s.base s.events (TellsChange s r op)
+  pub told : OfValues s.base s.events (TellsChange s r op)
 
 pub record MayRead (s : DiscPart) (t : Transid) (file : ℕ) (key : List ℕ) (value : Option (List ℕ)) : Type 0 where
   pub takes : MayTake s t file key
-  pub told : IfTold s.base s.events (λ values. value ≡ values file key)
+  pub told : OfValues s.base s.events (λ values. value ≡ values file key)
 
 -- no other transaction holds the file or a key of it
 pub record MayLock (s : DiscPart) (t : Transid) (file : ℕ) : Type 0 where
@@ -123,8 +123,8 @@ pub record MayLock (s : DiscPart) (t : Transid) (file : ℕ) : Type 0 where
 abbrev pub MayTurn : DiscPart → Transid → Cause → Type 0
 MayTurn s t (Busy step h) = IsHere s step.file × IsOther h t × (holder s.events step.file step.key ≡ Some h) × (is_lock step.op ≡ false)
 MayTurn s t (BusyFile file h) = IsHere s file × IsOther h t × ((file_holder s.events file ≡ Some h) ⊎ ((key : List ℕ) × (holder s.events file key ≡ Some h)))
-MayTurn s t (Full step) = MayTake s t step.file step.key × IsPut step.op × IfTold s.base s.events (λ values. HasNoRoomFor s values step.file step.key)
-MayTurn s t (Refused step reason) = MayTake s t step.file step.key × IfTold s.base s.events (λ values. applied step.op (values step.file step.key) ≡ Err reason)
+MayTurn s t (Full step) = MayTake s t step.file step.key × IsPut step.op × OfValues s.base s.events (λ values. HasNoRoomFor s values step.file step.key)
+MayTurn s t (Refused step reason) = MayTake s t step.file step.key × OfValues s.base s.events (λ values. applied step.op (values step.file step.key) ≡ Err reason)
 MayTurn s t Dumping = IsSome (under_way s.events)
 
 -- the record takes back its transaction's newest change that is left
@@ -138,7 +138,7 @@ pub record MayUndo (s : DiscPart) (r : AuditRecord) : Type 0 where
   pub kind : r.kind ≡ UndoKind
   pub disc : r.disc ≡ s.number
   pub position : r.position ≡ next_position s
-  pub told : IfTold s.base s.events (λ values. r.before ≡ values r.file r.key)
+  pub told : OfValues s.base s.events (λ values. r.before ≡ values r.file r.key)
 
 -- behind the block's last record, which its content on the volume lacks
 pub record MayDraw (s : DiscPart) (file block position : ℕ) : Type 0 where

@@ -1,5 +1,5 @@
 -- A disc that has made changes of one transaction alone may make one more, and hand in what it has made.
-use Rattle.std.specs.Prelude.{ℕ, Bool, nat_le, ◌+◌, ◌-◌, ◌<◌, ◌≤◌, ◌^◌, if◌then◌else◌, List, [], ◌∷◌, ◌++◌, length, filter, max, Option, Some, None}
+use Rattle.std.specs.Prelude.{ℕ, Bool, nat_le, ◌+◌, ◌-◌, ◌<◌, ◌≤◌, ◌^◌, if◌then◌else◌, List, [], ◌∷◌, ◌++◌, length, filter, max, Option, Some, None, Ok}
 use Rattle.std.specs.Option.{option_or}
 use Rattle.std.proofs.Common.{◌≡◌, ◌≢◌, ◌⊎◌, true, false, inl, inr, refl, ap, sym, ◌∙◌, subst, arith, length-append, append-nil}
 use Rattle.std.proofs.lemmas.Bool.{le-leb}
@@ -14,8 +14,8 @@ use Rattle.trail_files.specs.declared.rules.Rules.{Rules}
 use Rattle.node_machine.specs.declared.event.DiscEvent.{DiscEvent}
 use Rattle.node_machine.specs.declared.event.DiscEvent.TheVariants.{Write}
 use Rattle.node_machine.specs.declared.event.Event.{Event}
-use Rattle.node_machine.specs.Disc.{IfTold, IsNoOther, MayAct, MayWrite, IsChange, TellsChange}
-use Rattle.tmf_model.specs.declared.script.Op.TheVariants.{Del}
+use Rattle.node_machine.specs.Disc.{OfValues, IsNoOther, MayAct, MayWrite, IsChange, TellsChange}
+use Rattle.tmf_model.specs.declared.script.Op.TheVariants.{Put}
 use Rattle.node_machine.specs.Made.{file_holder, has_closed, has_released, has_undone, holder, key_holder, made, up_to, volume_of}
 use Rattle.node_machine.specs.Node.{node}
 use Rattle.node_machine.specs.Opening.{Found, found_volume, opening_parts}
@@ -163,9 +163,14 @@ module _ (opening : List PartState) where
   here d (inl e) = subst (λ (n : ℕ). volume_of two_config n ≡ n) (sym e) refl
   here d (inr e) = subst (λ (n : ℕ). volume_of two_config n ≡ n) (sym e) refl
 
+  -- over values that have this one at each key, the change puts it where it stands
+  puts_same : (s : DiscPart) (value : List ℕ) (r : AuditRecord) → r.before ≡ Some value → r.after ≡ Some value → OfValues None s.events (TellsChange s r (Put value))
+  puts_same s value r before after = ((λ file key. Some value), record { before = before; after = ap (λ (o : Option (List ℕ)). Ok o) (sym after); room = inl (inl refl) })
+
   -- the disc may make one more change
-  pub may_write : (d n : ℕ) (records : List AuditRecord) (v : Sight Event) (r : AuditRecord) → IsOneOfTwo d → (h : IsWriting opening d records v) → n ≡ length records → IsNextChange d (n + 1) r → MayWrite h.part r Del
-  may_write d n records v r one h many new = record {
+  pub may_write : (d n : ℕ) (value : List ℕ) (records : List AuditRecord) (v : Sight Event) (r : AuditRecord) → IsOneOfTwo d → (h : IsWriting opening d records v) → n ≡ length records → IsNextChange d (n + 1) value r
+      → MayWrite h.part r (Put value)
+  may_write d n value records v r one h many new = record {
     takes = record {
       here = ap (λ c. volume_of c r.file) h.config ∙ ap (λ f. volume_of two_config f) new.file ∙ here d one ∙ sym h.number;
       acts = record { unclosed = unclosed d h.part.events r.tx h.changes; nothing_undone = not_undone d h.part.events r.tx h.changes; unreleased = unreleased d h.part.events r.tx h.changes };
@@ -175,14 +180,14 @@ module _ (opening : List PartState) where
     kind = new.kind;
     disc = new.disc_is ∙ sym h.number;
     position = (let at = new.position_is in let first = h.first in let made_are = ap (λ (l : List AuditRecord). length l) h.made_are in omega (arith, at, first, made_are, many));
-    told = subst (λ b. IfTold b h.part.events (TellsChange h.part r Del)) (sym h.base) tt;
+    told = subst (λ b. OfValues b h.part.events (TellsChange h.part r (Put value))) (sym h.base) (puts_same h.part value r new.before new.after);
   }
 
   -- the disc has made one more change
-  pub writing_more : (d n : ℕ) (records : List AuditRecord) (v w : Sight Event) (r : AuditRecord) → (h : IsWriting opening d records v) → n ≡ length records → IsNextChange d (n + 1) r
-      → part_state node opening w ≡ Some (Disc (record h.part { events = Write r Del ∷ h.part.events })) → ((f : Fact) → Knows node opening v f → Knows node opening w f) → IsWriting opening d (records ++ r ∷ []) w
-  writing_more d n records v w r h many new at knows = record {
-    part = record h.part { events = Write r Del ∷ h.part.events };
+  pub writing_more : (d n : ℕ) (value : List ℕ) (records : List AuditRecord) (v w : Sight Event) (r : AuditRecord) → (h : IsWriting opening d records v) → n ≡ length records → IsNextChange d (n + 1) value r
+      → part_state node opening w ≡ Some (Disc (record h.part { events = Write r (Put value) ∷ h.part.events })) → ((f : Fact) → Knows node opening v f → Knows node opening w f) → IsWriting opening d (records ++ r ∷ []) w
+  writing_more d n value records v w r h many new at knows = record {
+    part = record h.part { events = Write r (Put value) ∷ h.part.events };
     at = at;
     config = h.config;
     number = h.number;

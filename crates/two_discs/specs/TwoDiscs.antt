@@ -56,14 +56,21 @@ two_part = record { config = two_config; number = 1; old = Some []; present = 1;
 abbrev pub attempt_of : ℕ → Transid
 attempt_of worker = record { epoch = 1; worker = worker; ordinal = 1; attempt = 1 }
 
--- a change of the worker with the disc's number, at this position of the disc
-pub record IsNextChange (disc position : ℕ) (r : AuditRecord) : Type 0 where
+-- a change of the worker with the disc's number, at this position of the disc: it puts the value that its key has
+pub record IsNextChange (disc position : ℕ) (value : List ℕ) (r : AuditRecord) : Type 0 where
   pub kind : r.kind ≡ Change
   pub disc_is : r.disc ≡ disc
   pub file : r.file ≡ disc
   pub tx : r.tx ≡ attempt_of disc
   pub position_is : r.position ≡ position
+  pub before : r.before ≡ Some value
+  pub after : r.after ≡ Some value
   pub valid : is_audit_record two_rules r ≡ true
+
+-- the record gives its key the value, where it had none
+pub record IsPutOf (value : List ℕ) (r : AuditRecord) : Type 0 where
+  pub before : r.before ≡ None
+  pub after : r.after ≡ Some value
 
 -- each event is a change of that attempt
 abbrev pub AreChanges : ℕ → List DiscEvent → Type 0

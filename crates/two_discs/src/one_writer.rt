@@ -13,6 +13,7 @@ ghost use Rattle.trail_files.specs.Content.{Content, landed_in, with_loaded, wit
 ghost use Rattle.trail_files.specs.Holds.{Holds, Keeps};
 ghost use Rattle.trail_files.specs.Trail.{IsWritable};
 ghost use Rattle.audit_writer.specs.Seat.{sight_of, IsTrailAt};
+ghost use Rattle.two_discs.specs.TwoDiscs.{IsPutOf};
 
 use audit_writer::{
     AuditWriter, DeviceRun, Failed, NodeRun, OpenQueue, QueueName, QueuedLock, WriterState,
@@ -49,11 +50,13 @@ fn rules(alloc: Global) -> Result<Rules, Fail>
     })
 }
 
-// The first worker's first attempt gives key `k1` the value `v1`.
-fn change() -> Result<AuditRecord, Fail>
-    ensures { IfOk result IsFirst }
+// The first worker's first attempt gives key `k1` the value `v1`: the change, and the value.
+fn change() -> Result<(AuditRecord, Value), Fail>
+    ensures first { IfOk result (λ c. IsFirst c.0) }
+    ensures puts { IfOk result (λ c. IsPutOf c.1 c.0) }
 {
-    Ok(AuditRecord {
+    let value = Value::new(b"v1")?;
+    let change = AuditRecord {
         kind: AuditKind::Change,
         disc: 1,
         file: 1,
@@ -66,8 +69,9 @@ fn change() -> Result<AuditRecord, Fail>
         position: 1,
         key: Key::new(b"k1")?,
         before: None,
-        after: Some(Value::new(b"v1")?),
-    })
+        after: Some(value),
+    };
+    Ok((change, value))
 }
 
 // The worker enlists the disc, which makes the change; the trail sees that.
@@ -77,19 +81,21 @@ fn make<J: NodeRun>(
     disc: &mut Seat<NodeMachine, J>,
     trail: &mut Seat<NodeMachine, J>,
     change: &AuditRecord,
+    value: Value,
 )
     requires opening { J.opening ≡ opening_parts one_found }
     requires worker { worker.old ≡ new_seat 0 }
     requires disc { disc.old ≡ new_seat 16 }
     requires trail { trail.old ≡ new_seat 24 }
     requires first { IsFirst change.now }
+    requires puts { IsPutOf value change.now }
     ensures may { MayHand J.opening one_found one_rules 1 disc.new 1 (change.now ∷ []) }
     ensures at { IsTrailAt J.opening one_found (sight_of J.opening trail.new) }
     ensures part { (sight_of J.opening trail.new).part ≡ one_part }
 {
     begin(chronicle, worker, change.tx);
     enlist(chronicle, worker, change.tx, 1);
-    write(chronicle, disc, worker, change, &Op::Del);
+    write(chronicle, disc, worker, change, &Op::Put(value));
     chronicle.meet(trail, disc);
 }
 
@@ -111,8 +117,8 @@ fn opened<'a, D: Disk + Drop, J: DeviceRun<D>>(
     let mut seat = seats.swap_remove(24);
     let mut disc = seats.swap_remove(16);
     let mut worker = seats.swap_remove(0);
-    let change = change()?;
-    make(chronicle, &mut worker, &mut disc, &mut seat, &change);
+    let (change, value) = change()?;
+    make(chronicle, &mut worker, &mut disc, &mut seat, &change, value);
     match WriterState::attach(alloc, trail, seat, chronicle) {
         Ok(state) => Ok((state, disc, change)),
         Err(_) => Err(Fail::new("no memory")),

@@ -81,21 +81,24 @@ fn attempt(worker: u8) -> Transid
     }
 }
 
-fn next_change(disc: u8, position: u64) -> Result<AuditRecord, Broken>
+// The change, and the value that it puts, which the key has.
+fn next_change(disc: u8, position: u64) -> Result<(AuditRecord, Value), Broken>
     requires one { IsOneOfTwo disc }
     requires small { (1 ≤ position) × (position ≤ 4294967295) }
-    ensures { IfOk result (IsNextChange disc position) }
+    ensures { IfOk result (λ c. IsNextChange disc position c.1 c.0) }
 {
-    Ok(AuditRecord {
+    let value = Value::new(b"v1").map_err(|_| Broken::Memory)?;
+    let change = AuditRecord {
         kind: AuditKind::Change,
         disc,
         file: disc,
         tx: attempt(disc),
         position,
         key: Key::new(b"k1").map_err(|_| Broken::Memory)?,
-        before: None,
-        after: Some(Value::new(b"v1").map_err(|_| Broken::Memory)?),
-    })
+        before: Some(value),
+        after: Some(value),
+    };
+    Ok((change, value))
 }
 
 // The worker with the disc's number enlists it.
@@ -132,11 +135,11 @@ fn change_one<J: NodeRun>(
 {
     let _ = records.as_slice();
     let made = next_change(disc, records.len() as u64 + 1)?;
-    let change = &made;
+    let change = &made.0;
     let Ok(()) = records.push(*change) else {
         return Err(Broken::Memory);
     };
-    chronicle.append(seat, &DiscEvent::Write(*change, Op::Del));
+    chronicle.append(seat, &DiscEvent::Write(*change, Op::Put(made.1)));
     Ok(*change)
 }
 

@@ -1,13 +1,16 @@
-use Rattle.std.proofs.Common.{◌≡◌, ◌∷◌, [], Some, None, inl, refl, ap, sym, ◌∙◌, subst, arith}
+use Rattle.std.specs.Prelude.{ℕ, List, Option, Ok}
+use Rattle.std.proofs.Common.{◌≡◌, ◌∷◌, [], Some, None, inl, inr, refl, ap, sym, ◌∙◌, subst, arith, ⊎_elim}
 use Rattle.std.proofs.lemmas.Bool.{le-leb}
 use Rattle.chronicle.specs.Histories.{states_after, IsTrueIn}
 use Rattle.chronicle.specs.Seats.{part_state}
 use Rattle.chronicle.proofs.Facts.{known_of_part}
+use Rattle.tmf_model.specs.RecordMap.{empty_map}
+use Rattle.node_machine.specs.Made.{volume_of}
 use Rattle.node_machine.specs.Node.{node}
 use Rattle.node_machine.specs.Opening.{opening_parts, trail_part}
 use Rattle.node_machine.specs.Parts.Fact.{Made, Durable}
 use Rattle.node_machine.specs.Parts.PartState.{Disc, Trail}
-use Rattle.audit_writer.specs.OneTrail.{one_found, one_part}
+use Rattle.audit_writer.specs.OneTrail.{one_config, one_found, one_part}
 use Rattle.audit_writer.specs.Seat.{trail_in}
 use Rattle.two_discs.proofs.one_writer.make.Goals as goal
 
@@ -23,6 +26,35 @@ begin-requires g c =
       undecided = refl;
       alone = refl;
     }
+
+-- over no values the change puts its own
+pub write-requires : goal.write-requires
+write-requires g c = λ lifetimes within.
+    let first = c.requires.first in
+    let puts = c.requires.puts in (
+      within,
+      (
+        record {
+          at = ap (λ o. part_state node o c.args.disc.now) c.requires.opening ∙ ap (λ v. part_state node (opening_parts one_found) v) c.requires.disc;
+          may = record {
+            takes = record { here = ap (λ (f : ℕ). volume_of one_config f) first.file; acts = record { unclosed = refl; nothing_undone = refl; unreleased = refl }; free = inl refl };
+            op_changes = tt;
+            kind = first.kind;
+            disc = first.disc;
+            position = first.position;
+            told = (
+              empty_map,
+              record {
+                before = puts.before;
+                after = ap (λ (o : Option (List ℕ)). Ok o) (sym puts.after);
+                room = inr ([], omega arith, λ other home takes. ⊎_elim (λ e. absurd (cc (e))) (λ e. absurd (cc (e))) takes);
+              },
+            );
+          };
+        },
+        c.enlist.ensures.knows,
+      ),
+    )
 
 trail_at_last : (g : _) → (c : goal.After-meet g) → part_state node g.J.Run.opening c.meet.new.a ≡ Some (Trail one_part)
 trail_at_last g c = c.meet.ensures.first_learned.state ∙ ap (λ o. part_state node o c.args.trail.now) c.requires.opening ∙ ap (λ v. part_state node (opening_parts one_found) v) c.requires.trail

@@ -13,7 +13,8 @@ use Rattle.disc_process.specs.declared.refused.WriteRefused.{WriteRefused}
 use Rattle.disc_process.specs.declared.refused.WriteRefused.TheVariants as refused
 use Rattle.disc_process.specs.Draw.{HasDrawn, HasMadeRoom}
 use Rattle.disc_process.specs.Write.{HasBadBlock, IsUnread}
-use Rattle.disc_process.proofs.Drawn.{if_err, rose_more}
+use Rattle.audit_writer.proofs.Joining.{rose_more}
+use Rattle.disc_process.proofs.Drawn.{if_err}
 use Rattle.disc_process.proofs.Rooms.{room_behind, sought_failed, sought_made}
 use Rattle.disc_process.proofs.Unread.{unread_draw}
 use Rattle.disc_process.specs.Refused.{refused_from}

@@ -19,7 +19,7 @@ use Rattle.trail_files.specs.declared.audit_record.AuditRecord.{AuditRecord}
 use Rattle.node_machine.specs.declared.event.DiscEvent.TheVariants as did
 use Rattle.node_machine.specs.declared.event.Event.{Event}
 use Rattle.node_machine.specs.declared.event.Event.TheVariants.{OfDisc}
-use Rattle.node_machine.specs.Disc.{MayAct, MayWrite, IsNoOther, IfTold, TellsChange}
+use Rattle.node_machine.specs.Disc.{MayAct, MayWrite, IsNoOther, OfValues, TellsChange}
 use Rattle.node_machine.specs.Made.{has_released, holder, home_block, made, next_position, volume_of}
 use Rattle.node_machine.specs.Node.{node}
 use Rattle.node_machine.specs.Parts.{DiscPart}
@@ -38,7 +38,7 @@ use Rattle.disc_process.specs.declared.found.Found.TheVariants as found
 use Rattle.tmf_model.specs.declared.config.Config.{Config}
 use Rattle.record_locks.specs.Locks.{HasTaken, SameLocks, key_name}
 use Rattle.disc_process.specs.Blocks.{HasMarked, cached, set_in}
-use Rattle.disc_process.specs.Disc.{DiscView, Finds, FindsIn, HoldsPending, HoldsValues, Keeps, record_of, the_disc, last_position, position_limit}
+use Rattle.disc_process.specs.Disc.{DiscView, Finds, FindsIn, HoldsPending, Keeps, record_of, the_disc, last_position, position_limit}
 use Rattle.disc_process.proofs.Acting.{may_act_seats}
 use Rattle.disc_process.proofs.Caches.{marked_from}
 use Rattle.disc_process.proofs.Draws.{below_written, drawn_written}
@@ -46,7 +46,7 @@ use Rattle.disc_process.proofs.Founds.{can_take, changes}
 use Rattle.disc_process.proofs.Keeping.{disc_seat_next, draws_changed, err_of, keeps_locks, live_changed, keeps_roomy, live_same, ok_of, told_changed, pending_changed, position_changed}
 use Rattle.disc_process.proofs.Locking.{held_alone, locks_changed, locks_same}
 use Rattle.disc_process.proofs.Recording.{all_more, from_more, record_valid, some_image}
-use Rattle.disc_process.proofs.Telling.{told_to, tells_change}
+use Rattle.disc_process.proofs.Telling.{of_values, tells_change}
 use Rattle.disc_process.proofs.Later.{enlisted_met, enlisted_txn, later_then, met_txn}
 use Rattle.disc_process.specs.Write.{HasDone}
 use Rattle.disc_process.specs.Moves.{HoldsMoves}
@@ -87,10 +87,10 @@ append-requires g c =
     let r : AuditRecord = c.change_record-change.result in
     let r_is = c.change_record-change.ensures.value in
     let plain : AuditRecord = record { kind = ChangeKind; disc = c.self.inside.volume; file = step.file; tx = t; position = c.self.inside.next; key = step.key; before = c.args.before; after = c.args.after } in
-    let told : IfTold s.base s.events (TellsChange s plain step.op) =
-    told_to s.base s.events (HoldsValues g.D.Disk.tells g.D.Disk.held s old) (TellsChange s plain step.op)
-    (λ values h. (let y = tells_change g.D.Disk.tells g.D.Disk.held s old step number frame.block (found.Change c.args.before c.args.after) here in_cache b.1.2 refl values h t c.args.before c.args.after is in
-    record { before = y.before; after = y.after; room = y.room })) i.keeps.values in
+    let told : OfValues s.base s.events (TellsChange s plain step.op) =
+    of_values g.D.Disk.tells g.D.Disk.held s old step.file number frame.block here in_cache (TellsChange s plain step.op)
+    (λ values same. (let y = tells_change s step number frame.block (found.Change c.args.before c.args.after) b.1.2 refl values same t c.args.before c.args.after is in
+    record { before = y.before; after = y.after; room = y.room })) s.base i.keeps.values in
     let may : MayWrite s plain step.op = record {
       takes = record { here = here; acts = acts; free = free };
       op_changes = is.op_changes;
@@ -166,11 +166,11 @@ invariant_of-self-2 g c =
     let r_after : r.after ≡ c.args.after = ap (λ (x : AuditRecord). x.after) r_is in
     let in_cache : cached old step.file number ≡ Some frame.block = ap (option_map (λ (x : Frame). x.block)) b.1.1 in
     let changed : AuditRecord = record { kind = ChangeKind; disc = c.self.inside.volume; file = step.file; tx = t; position = c.self.inside.next; key = step.key; before = c.args.before; after = c.args.after } in
-    let told_r : IfTold s.base s.events (TellsChange s r step.op) =
-    subst (λ (x : AuditRecord). IfTold s.base s.events (TellsChange s x step.op)) (sym r_is)
-    (told_to s.base s.events (HoldsValues g.D.Disk.tells g.D.Disk.held s old) (TellsChange s changed step.op)
-    (λ values h. (let y = tells_change g.D.Disk.tells g.D.Disk.held s old step number frame.block (found.Change c.args.before c.args.after) here in_cache b.1.2 refl values h t c.args.before c.args.after is in
-    record { before = y.before; after = y.after; room = y.room })) i.keeps.values) in
+    let told_r : OfValues s.base s.events (TellsChange s r step.op) =
+    subst (λ (x : AuditRecord). OfValues s.base s.events (TellsChange s x step.op)) (sym r_is)
+    (of_values g.D.Disk.tells g.D.Disk.held s old step.file number frame.block here in_cache (TellsChange s changed step.op)
+    (λ values same. (let y = tells_change s step number frame.block (found.Change c.args.before c.args.after) b.1.2 refl values same t c.args.before c.args.after is in
+    record { before = y.before; after = y.after; room = y.room })) s.base i.keeps.values) in
     let some_r = subst (λ (x : AuditRecord). (is_some x.before || is_some x.after) ≡ true) (sym r_is) (some_image step.op c.args.before c.args.after is.op_changes is.gives) in
     let free_t : IsNoOther (holder s.events step.file step.key) t =
     subst (λ (x : Transid). IsNoOther (holder s.events step.file step.key) x) (sym c.tx-t.ensures.tx) (subst (λ (v : DiscView g.row.D.Denot). IsNoOther (holder v.part.events step.file step.key) c.args.tx.now.tx) (sym c.self.view_is) c.requires.free) in

@@ -1,4 +1,4 @@
-use Rattle.std.proofs.Common.{◌≡◌, ◌≢◌, ◌⊎◌, ℕ, ◌+◌, ◌-◌, ◌<◌, arith, cond, true, map, List, [], ◌∷◌, ◌++◌, Option, Some, length, ap, sym, subst, ◌∙◌, refl, unwrap_or}
+use Rattle.std.proofs.Common.{◌≡◌, ◌≢◌, ◌⊎◌, ℕ, ◌+◌, ◌-◌, ◌<◌, arith, cond, true, map, List, [], ◌∷◌, ◌++◌, Some, length, ap, sym, subst, ◌∙◌, refl}
 use Rattle.std.specs.Prelude.{IsTrue, slice_get}
 use Rattle.std.specs.Option.{IsSome, option_map}
 use Rattle.std.proofs.lemmas.List.{length_push}
@@ -15,7 +15,7 @@ use Rattle.trail_files.specs.declared.audit_record.AuditRecord.{AuditRecord}
 use Rattle.node_machine.specs.declared.event.DiscEvent.{DiscEvent}
 use Rattle.node_machine.specs.declared.event.DiscEvent.TheVariants as did
 use Rattle.node_machine.specs.declared.event.Event.TheVariants.{OfDisc}
-use Rattle.node_machine.specs.Disc.{IfTold, IsBackedOut, MayUndo}
+use Rattle.node_machine.specs.Disc.{OfValues, IsBackedOut, MayUndo}
 use Rattle.node_machine.specs.Made.{has_undone, volume_of}
 use Rattle.node_machine.specs.Node.{node}
 use Rattle.node_machine.specs.Parts.{DiscPart}
@@ -29,7 +29,7 @@ use Rattle.block_cache.specs.Blocks.{InCache}
 use Rattle.block_cache.specs.Cache.{entry_at}
 use Rattle.disc_process.specs.declared.live.Change.{Change}
 use Rattle.disc_process.specs.Blocks.{HasMarked, cached, set_in, with_change}
-use Rattle.disc_process.specs.Disc.{DiscView, HoldsValues, Keeps, the_disc}
+use Rattle.disc_process.specs.Disc.{DiscView, Keeps, the_disc}
 use Rattle.disc_process.specs.Live.{live_of}
 use Rattle.disc_process.specs.LiveTx.{LiveTx, change_of}
 use Rattle.disc_process.specs.Moves.{HoldsMoves}
@@ -41,7 +41,7 @@ use Rattle.disc_process.proofs.Keeping.{disc_seat_next, keeps_roomy}
 use Rattle.disc_process.proofs.Moving.{moves_label, moves_undone}
 use Rattle.disc_process.proofs.Recording.{all_more, record_valid}
 use Rattle.disc_process.proofs.Spans.{spans_recorded, taken_span}
-use Rattle.disc_process.proofs.Telling.{told_to}
+use Rattle.disc_process.proofs.Telling.{of_values}
 use Rattle.disc_process.proofs.Undoing.{can_take_back, keeps_undone, left_shorter, some_taken}
 use Rattle.disc_process.specs.Device.{HoldsDevice, device_of}
 use Rattle.disc_process.proofs.Damaged.{blocks_changed}
@@ -66,9 +66,9 @@ append-requires g c =
     let frame : Frame = there.1.0 in
     let at : entry_at old.cache change.file number ≡ Some frame = ap (λ (x : ℕ × ℕ). entry_at old.cache x.0 x.1) (λ j. (sym c.requires.file j, sym n_is j)) ∙ there.1.1 in
     let plain : AuditRecord = record { kind = UndoKind; disc = c.self.inside.volume; file = change.file; tx = t; position = c.self.inside.next; key = change.key; before = c.args.before; after = change.before } in
-    let told : IfTold s.base s.events (λ values. c.args.before ≡ values change.file change.key) =
-    told_to s.base s.events (HoldsValues g.D.Disk.tells g.D.Disk.held s old) (λ values. c.args.before ≡ values change.file change.key)
-    (λ m h. sym there.1.2.0 ∙ ap (λ (x : Option Frame). value_at (unwrap_or (option_map (λ (y : Frame). y.block) x) (h.landed change.file number)) change.key) (sym at) ∙ h.same change.file change.key newest.here) i.keeps.values in
+    let told : OfValues s.base s.events (λ values. c.args.before ≡ values change.file change.key) =
+    of_values g.D.Disk.tells g.D.Disk.held s old change.file number frame.block newest.here (ap (option_map (λ (x : Frame). x.block)) at) (λ values. c.args.before ≡ values change.file change.key)
+    (λ values same. sym there.1.2.0 ∙ same change.key refl) s.base i.keeps.values in
     let may : MayUndo s plain = record {
       change = newest.item;
       others = newest.others;
