@@ -247,6 +247,6 @@ dump_joins law kind joined = λ config phase epoch devices found worker old new 
     let account = account_of kind config phase epoch devices found in
     let none = none_for law found account worker old new acts moves outcomes t told is next seen in
     let few = moves_few kind devices found volume t old.seat new.seat told done.moves done.makes in
-    let come = come_to law found account worker old new acts moves outcomes t told is next seen (item_acts volume t told) done.moves done.known few.1 (acts_own volume t told) few.0
+    let come = come_to law found account worker old new acts moves outcomes t told is next seen (item_acts volume t told) done.moves done.known few.1 (acts_own volume t told) few.0 done.apart
     (dump_told kind config phase epoch devices found volume t old new told item named none done) in
     joined config phase epoch devices found (opening_parts found) worker old new acts moves outcomes (outcome_of t told) (item_acts volume t told) done.moves is next come

@@ -26,14 +26,17 @@ use Rattle.node_machine.specs.declared.event.TrailEvent.TheVariants as trail_did
 use Rattle.disc_process.specs.Disc.{HasReached}
 use Rattle.disc_lock.specs.Tokens.{HasGiven}
 use Rattle.disc_lock.specs.Seats.{HasSeenMore}
-use Rattle.online_dump.specs.Dumped.{HasBegunFor, HasDumped as HasDumpedFor, HasFailedFor, HasGivenUpFor, HasSeenSince, HasTurnedAway, IsDumpRefusal, IsRefusedBefore, WasFit, WasSpent}
+use Rattle.online_dump.specs.Dumped.{HasBegunFor, HasDumped as HasDumpedFor, HasFailedFor, HasGivenUpFor, HasSeenRaise, HasSeenSince, HasTurnedAway, IsDumpRefusal, IsRefusedBefore, WasFit, WasSpent}
 use Rattle.online_dump.specs.declared.refused.DumpRefused.{DumpRefused}
 use Rattle.online_dump.specs.declared.refused.DumpRefused.TheVariants as refused
 use Rattle.run_outcomes.specs.Concerned.{dump_parts}
+use Rattle.run_outcomes.specs.Dumps.{EndsItsDumps}
 use Rattle.run_outcomes.specs.Knowing.{MovesKnownLaw, OnceLaw}
-use Rattle.run_outcomes.specs.Moves.{start_move}
+use Rattle.run_outcomes.specs.Moves.{dump_turn, start_move}
 use Rattle.run_outcomes.specs.Joined.{KnowsMore}
 use Rattle.run_outcomes.specs.Reach.{HasActed, HasMoved, KnowsActsAndMoves, reach_at}
+use Rattle.run_outcomes.specs.declared.outcome.Told.{Told}
+use Rattle.run_outcomes.specs.declared.outcome.Told.TheVariants as told
 use Rattle.run_items.specs.Dumped.{HasDoneDump, IsCutShort, IsDumpAnswered, told_by}
 use Rattle.run_items.specs.Item.{HasGivenOneAtMost, IsSpentIn}
 use Rattle.run_items.proofs.Entries.{among_event, count_more, entries_append, event_among}
@@ -109,6 +112,54 @@ module _ {L : Type 0} (opening : List PartState) (found : Found) (volume : ℕ) 
 
   seen_so : (part : ℕ) (e : Event) → Among (events_of part new.seen) e → Among new.seen (part, e)
   seen_so part e has = among_event part new.seen e has
+
+  -- nothing of a dump
+  none_apart : (tells : Told) → ((named : ℕ) → tells ≡ told.Dumping named → ⊥) → EndsItsDumps old.seen new.seen [] (record { tx = t; told = tells })
+  none_apart tells undumped = record {
+    more = seen.0.begins.0;
+    seen = sym whole;
+    begun = λ v u number start among. absurd among;
+    ended = λ v u number start among. absurd among;
+    turned = λ named is. absurd (undumped named is);
+  }
+
+  -- a turn
+  turn_apart : HasTurnedAway volume t old new before after → EndsItsDumps old.seen new.seen [] (record { tx = t; told = told.Dumping volume })
+  turn_apart turned = record {
+    more = seen.0.begins.0;
+    seen = sym whole;
+    begun = λ v u number start among. absurd among;
+    ended = λ v u number start among. absurd among;
+    turned = λ named is.
+        let same : volume ≡ named = cc (is) in
+        (refl, subst (λ (n : ℕ). Among seen.0.begins.0 (dump_turn n t)) same (since_more (disc_part volume) (OfDisc (did.Turn t cause.Dumping)) old new seen.0.begins turned.turned));
+  }
+
+  abbrev raise_entry : ℕ → ℕ → Option ℕ → ℕ × Event
+  raise_entry v number rest = (disc_part v, OfDisc (did.Raise number rest))
+
+  -- the begin of a dump, and its end
+  start_apart : (tells : Told) (number start : ℕ) → ((named : ℕ) → tells ≡ told.Dumping named → ⊥) → Among seen.0.begins.0 (start_move volume t number start) → HasSeenRaise volume number new
+      → EndsItsDumps old.seen new.seen (start_move volume t number start ∷ []) (record { tx = t; told = tells })
+  start_apart tells number start undumped begun raised = record {
+    more = seen.0.begins.0;
+    seen = sym whole;
+    begun = λ v u n s among. ⊎_elim
+        (λ (same : start_move volume t number start ≡ start_move v u n s). subst (λ (x : ℕ × Event). Among seen.0.begins.0 x) same begun)
+        (λ none. absurd none)
+        among;
+    ended = λ v u n s among. ⊎_elim
+        (λ (same : start_move volume t number start ≡ start_move v u n s). (raised.0, subst (λ (x : ℕ × Event). Among new.seen x) (raise_same v u n s raised.0 same) (seen_so (disc_part volume) (OfDisc (did.Raise number raised.0)) raised.1)))
+        (λ none. absurd none)
+        among;
+    turned = λ named is. absurd (undumped named is);
+  } where
+    raise_same : (v : ℕ) (u : Transid) (n s : ℕ) (rest : Option ℕ) → start_move volume t number start ≡ start_move v u n s → raise_entry volume number rest ≡ raise_entry v n rest
+    raise_same v u n s rest same =
+        let part : disc_part volume ≡ disc_part v = ap (λ (x : ℕ × Event). x.0) same in
+        let event : OfDisc (did.Start number start t) ≡ OfDisc (did.Start n s u) = ap (λ (x : ℕ × Event). x.1) same in
+        let one : number ≡ n = cc (event) in
+        λ i. (part i, OfDisc (did.Raise (one i) rest))
 
   dumped_so : {D : Type 0} (kind : disk.Ghosts D) (start : ℕ) → HasDumpedFor kind opening found volume t start old new before after → HasDumped new.seen volume t start
   dumped_so kind start is = record {
@@ -187,23 +238,26 @@ module _ {L : Type 0} (opening : List PartState) (found : Found) (volume : ℕ) 
       moves = start_move volume t up.number up.start ∷ [];
       known = start_known moves_law up.number up.start up.begun.given (start_seen up.number up.start up.between up.later up.begun);
       makes = (failed_then up.between device up.behind up.stop, inr (up.number, up.start, cut_so up.between up.number up.start device up.later up.begun up.stop, refl));
+      apart = start_apart (told.Failed device) up.number up.start (λ named is. cc (is)) (start_seen up.number up.start up.between up.later up.begun) up.ended.raised;
     }
     given_up_done (refused.Damaged device damage) up = record {
       moves = start_move volume t up.number up.start ∷ [];
       known = start_known moves_law up.number up.start up.begun.given (start_seen up.number up.start up.between up.later up.begun);
       makes = (up.stop, (up.number, up.start, refl));
+      apart = start_apart (told.Damaged device damage) up.number up.start (λ named is. cc (is)) (start_seen up.number up.start up.between up.later up.begun) up.ended.raised;
     }
     given_up_done refused.NoMemory up = record {
       moves = start_move volume t up.number up.start ∷ [];
       known = start_known moves_law up.number up.start up.begun.given (start_seen up.number up.start up.between up.later up.begun);
       makes = (up.number, up.start, refl);
+      apart = start_apart told.Memory up.number up.start (λ named is. cc (is)) (start_seen up.number up.start up.between up.later up.begun) up.ended.raised;
     }
 
     -- one that had not
     before_done : (refusal : DumpRefused) → IsRefusedBefore kind opening found volume t old new before after refusal → HasDoneDump kind devices found volume t (reach_at old before) (reach_at new after) (told_by volume (Err refusal))
-    before_done (refused.Spent part) is = record { moves = []; known = none_known moves_law is.1; makes = (spent_so kind part is.0, refl) }
-    before_done refused.Dumping is = record { moves = []; known = turn_known once_law is.1; makes = (refl, refl) }
-    before_done (refused.Failed device) is = record { moves = []; known = none_known moves_law is.3; makes = (inr (inr (is.1, is.2)), inl refl) }
+    before_done (refused.Spent part) is = record { moves = []; known = none_known moves_law is.1; makes = (spent_so kind part is.0, refl); apart = none_apart (told.Spent part) (λ named other. cc (other)) }
+    before_done refused.Dumping is = record { moves = []; known = turn_known once_law is.1; makes = (refl, refl); apart = turn_apart is.1 }
+    before_done (refused.Failed device) is = record { moves = []; known = none_known moves_law is.3; makes = (inr (inr (is.1, is.2)), inl refl); apart = none_apart (told.Failed device) (λ named other. cc (other)) }
     before_done (refused.Damaged device damage) is = absurd is
     before_done refused.NoMemory is = absurd is
 
@@ -215,6 +269,7 @@ module _ {L : Type 0} (opening : List PartState) (found : Found) (volume : ℕ) 
       moves = start_move volume t is.number start ∷ [];
       known = start_known moves_law is.number start is.begun.given (start_seen is.number start new ([], append-nil new.seen) is.begun);
       makes = (refl, (dumped_so kind start is, refl));
+      apart = start_apart (told.Dumped volume start) is.number start (λ named other. cc (other)) (start_seen is.number start new ([], append-nil new.seen) is.begun) is.ended.raised;
     }
     dump_done (Err refusal) unasked is = ⊎_elim
         (λ (early : IsRefusedBefore kind opening found volume t old new before after refusal). before_done refusal early)

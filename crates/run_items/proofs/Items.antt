@@ -28,6 +28,7 @@ use Rattle.node_machine.specs.declared.event.WorkerEvent.{WorkerEvent}
 use Rattle.node_machine.specs.declared.event.WorkerEvent.TheVariants.{Begin, End, Quit}
 use Rattle.disc_lock.specs.Seats.{HasSeenMore}
 use Rattle.run_outcomes.specs.Between.{HasNone, NextHasNoneLaw}
+use Rattle.run_outcomes.specs.Dumps.{EndsItsDumps}
 use Rattle.run_outcomes.specs.Joined.{HasComeTo, IsNext, KnowsMore}
 use Rattle.run_outcomes.specs.Reach.{Reach}
 use Rattle.run_outcomes.specs.Run.{account_of}
@@ -110,8 +111,8 @@ module _ (law : NextHasNoneLaw) (found : Found) (account : Log → Account) (wor
 
   -- what the worker comes to by it
   pub come_to : (more_acts more_moves : Log) → KnowsMore t.worker old new more_acts more_moves → length more_acts + length more_moves ≤ 1 → acts_by t more_acts ≡ more_acts → moves_by t more_moves ≡ more_moves
-      → IsToldBehind (opening_parts found) found account new.seat (outcome_of t told) more_acts more_moves → HasComeTo (opening_parts found) found account (outcome_of t told) old new more_acts more_moves
-  come_to more_acts more_moves known few its_acts its_moves behind = record {
+      → EndsItsDumps old.seat.seen new.seat.seen more_moves (outcome_of t told) → IsToldBehind (opening_parts found) found account new.seat (outcome_of t told) more_acts more_moves → HasComeTo (opening_parts found) found account (outcome_of t told) old new more_acts more_moves
+  come_to more_acts more_moves known few its_acts its_moves apart behind = record {
     part = seen.0.part;
     begins = seen.0.begins;
     others = λ u e of_worker differ of_it has. own_kept u.worker old.seat new.seat (part ∙ ap (λ (n : ℕ). Some (worker_part n)) (sym of_worker)) seen.0.part seen.0.mine e has;
@@ -121,4 +122,5 @@ module _ (law : NextHasNoneLaw) (found : Found) (account : Log → Account) (wor
     acts_of_it = its_acts;
     moves_of_it = its_moves;
     told = behind;
+    dumps = apart;
   }

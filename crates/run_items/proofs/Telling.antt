@@ -25,8 +25,9 @@ use Rattle.control_point.specs.Given.{IsCutShort as IsControlCut}
 use Rattle.run_outcomes.specs.Concerned.{control_parts}
 use Rattle.run_outcomes.specs.Between.{NextHasNoneLaw}
 use Rattle.run_outcomes.specs.Devices.{devices, part_of_device}
+use Rattle.run_outcomes.specs.Dumps.{EndsItsDumps}
 use Rattle.run_outcomes.specs.Joined.{JoinedLaw, KnowsMore}
-use Rattle.run_outcomes.specs.Moves.{IsCutShort, low_move}
+use Rattle.run_outcomes.specs.Moves.{IsCutShort, low_move, start_move}
 use Rattle.run_outcomes.specs.Reach.{KnowsActsAndMoves}
 use Rattle.run_outcomes.specs.Run.{account_of}
 use Rattle.run_outcomes.specs.Told.{IsControlTold, item_of}
@@ -129,15 +130,33 @@ control_told kind = λ config phase epoch handed_in found volume t old new told 
 one_by : (t : Transid) (volume low : ℕ) → moves_by t (low_move volume t low ∷ []) ≡ low_move volume t low ∷ []
 one_by t volume low = ap (λ (b : Bool). if b then low_move volume t low ∷ [] else []) (same_self t)
 
+-- none of these is the begin of a dump
+abbrev HasNoStart : Log → Type 0
+HasNoStart moves = (volume : ℕ) (u : Transid) (number start : ℕ) → Among moves (start_move volume u number start) → ⊥
+
+low_no_start : (volume low : ℕ) (t : Transid) → HasNoStart (low_move volume t low ∷ [])
+low_no_start volume low t = λ v u number start among. ⊎_elim
+    (λ (same : low_move volume t low ≡ start_move v u number start). absurd (let one : OfDisc (did.Low low (Attempt t)) ≡ OfDisc (did.Start number start u) = ap (λ (x : ℕ × Event). x.1) same in cc (one)))
+    (λ none. absurd none)
+    among
+
 module _ (config : Config) (volume : ℕ) (t : Transid) (old new : Sight Event) where
-  none_by : (moves : Log) → moves ≡ [] → (moves_by t moves ≡ moves) × (length moves ≤ 1)
-  none_by moves is = (ap (λ (l : Log). moves_by t l) is ∙ sym is, (let size = ap (λ (l : Log). length l) is in omega (arith, size)))
+  none_by : (moves : Log) → moves ≡ [] → (moves_by t moves ≡ moves) × (length moves ≤ 1) × HasNoStart moves
+  none_by moves is = (
+    ap (λ (l : Log). moves_by t l) is ∙ sym is,
+    (let size = ap (λ (l : Log). length l) is in omega (arith, size)),
+    λ v u number start among. absurd (subst (λ (l : Log). Among l (start_move v u number start)) is among),
+  )
 
-  just_by : (moves : Log) (low : ℕ) → moves ≡ low_move volume t low ∷ [] → (moves_by t moves ≡ moves) × (length moves ≤ 1)
-  just_by moves low is = (ap (λ (l : Log). moves_by t l) is ∙ one_by t volume low ∙ sym is, (let size = ap (λ (l : Log). length l) is in omega (arith, size)))
+  just_by : (moves : Log) (low : ℕ) → moves ≡ low_move volume t low ∷ [] → (moves_by t moves ≡ moves) × (length moves ≤ 1) × HasNoStart moves
+  just_by moves low is = (
+    ap (λ (l : Log). moves_by t l) is ∙ one_by t volume low ∙ sym is,
+    (let size = ap (λ (l : Log). length l) is in omega (arith, size)),
+    λ v u number start among. low_no_start volume low t v u number start (subst (λ (l : Log). Among l (start_move v u number start)) is among),
+  )
 
-  -- its moves are its own, and one at most
-  pub moves_one : (told : Told) (moves : Log) → ControlMakes config volume t old new told moves → (moves_by t moves ≡ moves) × (length moves ≤ 1)
+  -- its moves are its own, one at most, and no begin of a dump
+  pub moves_one : (told : Told) (moves : Log) → ControlMakes config volume t old new told moves → (moves_by t moves ≡ moves) × (length moves ≤ 1) × HasNoStart moves
   moves_one (Controlled named low) moves makes = just_by moves low makes.2
   moves_one (Spent part) moves makes = none_by moves makes.1
   moves_one (Failed device) moves makes = ⊎_elim
@@ -147,6 +166,16 @@ module _ (config : Config) (volume : ℕ) (t : Transid) (old new : Sight Event) 
   moves_one Memory moves makes = none_by moves makes
   moves_one _ moves makes = absurd makes
 
+  -- so it begins no dump, and tells of none
+  control_apart : (told : Told) (moves : Log) → ControlMakes config volume t old new told moves → IsPrefix old.seen new.seen → HasNoStart moves → EndsItsDumps old.seen new.seen moves (outcome_of t told)
+  control_apart told moves makes begins none = record {
+    more = begins.0;
+    seen = sym begins.1;
+    begun = λ v u number start among. absurd (none v u number start among);
+    ended = λ v u number start among. absurd (none v u number start among);
+    turned = λ v is. absurd (subst (λ (x : Told). ControlMakes config volume t old new x moves) is makes);
+  }
+
 pub control_joins : NextHasNoneLaw → {D : Type 0} (kind : disk.Ghosts D) → JoinedLaw kind → ControlJoinsLaw kind
 control_joins law kind joined = λ config phase epoch handed_in found worker old new acts moves outcomes volume t told is next item seen done.
     let account = account_of kind config phase epoch handed_in found in
@@ -154,6 +183,7 @@ control_joins law kind joined = λ config phase epoch handed_in found worker old
     let one = moves_one found.config volume t old.seat new.seat told done.moves done.makes in
     let known : KnowsMore t.worker old new [] done.moves = λ a m knows. subst (λ (l : Log). KnowsActsAndMoves t.worker new l (m ++ done.moves)) (sym (append-nil a)) (done.moved a m knows) in
     let come = come_to law found account worker old new acts moves outcomes t told is next seen [] done.moves known (let few = one.1 in omega (arith, few)) refl one.0
+    (control_apart found.config volume t old.seat new.seat told done.moves done.makes seen.0.begins one.2)
     (control_told kind config phase epoch handed_in found volume t old new told item none done) in
     subst (λ (l : Log). IsWorker (opening_parts found) found account worker new l (moves ++ done.moves) (outcomes ++ outcome_of t told ∷ [])) (append-nil acts)
     (joined config phase epoch handed_in found (opening_parts found) worker old new acts moves outcomes (outcome_of t told) [] done.moves is next come)

@@ -20,6 +20,7 @@ use Rattle.online_dump.specs.Dumped.{HasDumped as HasDumpedFor, HasFailedFor, Ha
 use Rattle.online_dump.specs.declared.refused.DumpRefused.{DumpRefused}
 use Rattle.online_dump.specs.declared.refused.DumpRefused.TheVariants as refused
 use Rattle.run_outcomes.specs.Concerned.{dump_parts}
+use Rattle.run_outcomes.specs.Dumps.{EndsItsDumps}
 use Rattle.run_outcomes.specs.Joined.{KnowsMore}
 use Rattle.run_outcomes.specs.Moves.{start_move}
 use Rattle.run_outcomes.specs.Reach.{Reach}
@@ -71,11 +72,12 @@ module _ {D : Type 0} (kind : disk.Ghosts D) (devices : ℕ → Option D) (found
   DumpMakes old new Memory moves = AreOneStart volume t moves
   DumpMakes old new _ moves = ⊥
 
-  -- The worker knows the acts of the dump more, which are one turn where another dump was under way and else none, and its moves, which are what is told of it.
+  -- The worker knows the acts of the dump more, which are one turn where another dump was under way and else none, and its moves, which are what is told of it. Both were newly seen, and a dump that was begun is ended.
   pub record HasDoneDump (old new : Reach) (told : Told) : Type 0 where
     pub moves : Log
     pub known : KnowsMore t.worker old new (item_acts volume t told) moves
     pub makes : DumpMakes old.seat new.seat told moves
+    pub apart : EndsItsDumps old.seat.seen new.seat.seen moves (record { tx = t; told = told })
 
 -- What is told is the answer of a dump, which was whole, or was refused for its cause.
 pub record IsDumpAnswered {D L : Type 0} (kind : disk.Ghosts D) (devices : ℕ → Option D) (opening : List PartState) (found : Found) (volume : ℕ) (t : Transid) (old new : Sight Event) (before after : Share L) (told : Told) : Type 0 where

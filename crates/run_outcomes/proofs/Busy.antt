@@ -8,7 +8,7 @@ use Rattle.chronicle.specs.Histories.{IsEnabled, IsHistory, states_after}
 use Rattle.disk_model.specs.declared.disk.Disk as disk
 use Rattle.node_machine.specs.Acts.{actor, acts_by}
 use Rattle.run_outcomes.specs.Reach.{Reach}
-use Rattle.node_machine.specs.Deeds.{IsInOrder, IsOn, Log, is_lock, lock_step, step_of, turn_of, turns_of}
+use Rattle.node_machine.specs.Deeds.{EventsLaw, IsInOrder, IsOn, Log, is_lock, lock_step, step_of, turn_of, turns_of}
 use Rattle.node_machine.specs.Disc.{MayTurn}
 use Rattle.node_machine.specs.Holders.{HolderLaw, IsLiveBy, TakesFile, TakesKey}
 use Rattle.node_machine.specs.Law.{Deed, deeds_of}
@@ -34,6 +34,7 @@ use Rattle.tmf_model.specs.declared.script.Transaction.{Transaction}
 use Rattle.tmf_model.specs.declared.transid.Transid.{Transid}
 use Rattle.trail_files.specs.MonitorOrder.{is_same_transid}
 use Rattle.run_outcomes.proofs.Counted.{disc_within}
+use Rattle.run_outcomes.proofs.Dumps.{dumping_told}
 use Rattle.run_outcomes.proofs.Elements.{among_at, among_given, among_map, among_take, given_by}
 use Rattle.run_outcomes.proofs.Telling.{acted, among_filter, among_split, begun, done, each_told}
 use Rattle.run_outcomes.specs.Run.{account_of}
@@ -417,10 +418,11 @@ module _ (law : HolderLaw) {D : Type 0} (kind : disk.Ghosts D) (config : Config)
       let stands = turned_at log outcome.tx transaction.steps file key (busy_cause h) on in
       taken_by outcome.tx on.step h apart (holder_took law found log stands.0 outcome.tx on.step h all.history stands.1)
 
-pub told_law : HolderLaw → {D : Type 0} (kind : disk.Ghosts D) → ToldLaw kind
-told_law law kind = λ config phase epoch handed_in found log reach acts moves of outcomes all. record {
+pub told_law : EventsLaw → HolderLaw → {D : Type 0} (kind : disk.Ghosts D) → ToldLaw kind
+told_law events law kind = λ config phase epoch handed_in found log reach acts moves of outcomes all. record {
   each = each_told (account_of kind config phase epoch handed_in found) found log reach acts moves of outcomes all;
   begun = begun (account_of kind config phase epoch handed_in found) found log reach acts moves of outcomes all;
   done = done (account_of kind config phase epoch handed_in found) found log reach acts moves of outcomes all;
   busy = busy_told law kind config phase epoch handed_in found log reach acts moves of outcomes all;
+  dumping = dumping_told events (account_of kind config phase epoch handed_in found) found log reach acts moves of outcomes all;
 }

@@ -49,7 +49,7 @@ use Rattle.run_outcomes.specs.declared.outcome.PhaseError.{PhaseError}
 use Rattle.run_outcomes.specs.declared.outcome.PhaseError.TheVariants.{Failed, NoMemory}
 use Rattle.run_outcomes.specs.Told.{Account, AreTold, IsOutcomeTold, IsRecordOf, IsTold}
 use Rattle.run_outcomes.specs.declared.outcome.Outcome.{Outcome}
-use Rattle.run_outcomes.specs.declared.outcome.Told.TheVariants.{Busy, Committed}
+use Rattle.run_outcomes.specs.declared.outcome.Told.TheVariants.{Busy, Committed, Dumping}
 use Rattle.run_outcomes.proofs.LimitRow.{within}
 
 -- THE SCRIPT
@@ -347,6 +347,7 @@ told = record {
   begun = λ u has. (committed_at 2, inl refl, only_begin u has);
   done = λ part e u among is. (committed_at 2, inl refl, only_done part e u among is);
   busy = λ outcome transaction file key holder among is at turned. absurd (only_outcome (λ o. o.told ≡ Busy file key holder → ⊥) (λ e. absurd (cc (e))) outcome among is);
+  dumping = λ outcome volume among is. absurd (only_outcome (λ o. o.told ≡ Dumping volume → ⊥) (λ e. absurd (cc (e))) outcome among is);
 }
 
 -- THE IMAGES

@@ -25,6 +25,7 @@ use Rattle.run_outcomes.specs.Told.{Account}
 use Rattle.run_outcomes.specs.Worker.{GoesOn, IsToldBehind, IsWorker}
 use Rattle.run_outcomes.specs.declared.outcome.Outcome.{Outcome}
 use Rattle.run_outcomes.specs.Joined.{HasComeTo, IsNext, JoinedLaw, NoneLaw}
+use Rattle.run_outcomes.proofs.Dumps.{dumps_apart}
 use Rattle.run_outcomes.proofs.Elements.{filter_none, filter_passes, prefix_then}
 use Rattle.run_outcomes.proofs.Next.{never_before}
 use Rattle.run_outcomes.proofs.None.{none_at}
@@ -183,6 +184,7 @@ module _ (opening : List PartState) (found : Found) (account : Log → Account) 
     theirs = theirs;
     moved = moved;
     told = told_by;
+    dumps = dumps_apart old.seat.seen new.seat.seen moves more_moves outcomes outcome is.dumps come.dumps;
   }
 
 pub joined_law : {D : Type 0} (kind : disk.Ghosts D) → JoinedLaw kind

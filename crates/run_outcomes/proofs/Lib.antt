@@ -4,6 +4,7 @@ mod ConcernRow
 mod CountRow
 mod Counted
 mod DecisionRow
+mod Dumps
 mod Elements
 mod Example
 mod Joined

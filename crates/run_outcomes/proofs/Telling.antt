@@ -132,7 +132,7 @@ begun_within found log t history begun =
 
 module _ (account : Log → Account) (found : Found) (log : Log) (reach : ℕ → Reach) (acts moves : ℕ → Log) (of : ℕ → List Outcome) (outcomes : List Outcome)
     (all : AreWorkers account found log reach acts moves of outcomes) where
-  exact : AreAllActsAndMoves log acts moves
+  pub exact : AreAllActsAndMoves log acts moves
   exact = tokens_law found log reach acts moves all.history (λ worker within. ((all.whole worker within).begins, (all.is worker within).knows)) all.tokens
 
   -- each act is of an outcome's attempt

@@ -1,12 +1,12 @@
 -- What is told where an item or an attempt was turned away.
-use Rattle.std.specs.Prelude.{◌≡◌, ℕ, ◌+◌, true, false, List, [], ◌∷◌, length, Some, None}
+use Rattle.std.specs.Prelude.{◌≡◌, ℕ, ◌+◌, true, false, List, [], ◌∷◌, ◌++◌, length, Some, None}
 use Rattle.std.proofs.Common.{refl, sym, ap, subst, ◌∙◌, arith, inl, inr, ⊎_elim}
 use Rattle.node_machine.proofs.Example.{change, config, t}
 use Rattle.node_machine.specs.Acts.{acts_by}
 use Rattle.node_machine.specs.Deeds.{Log, is_lock}
 use Rattle.node_machine.specs.Same.{Among}
 use Rattle.node_machine.specs.declared.event.Cause.TheVariants as cause
-use Rattle.node_machine.specs.declared.event.DiscEvent.TheVariants.{Start, Turn, Write}
+use Rattle.node_machine.specs.declared.event.DiscEvent.TheVariants.{Raise, Start, Turn, Write}
 use Rattle.node_machine.specs.declared.event.Event.{Event}
 use Rattle.node_machine.specs.declared.event.Event.TheVariants.{OfDisc, OfWorker}
 use Rattle.node_machine.specs.declared.event.WorkerEvent.TheVariants.{Begin, Enlist}
@@ -16,7 +16,8 @@ use Rattle.tmf_model.specs.declared.script.Phase.{Phase}
 use Rattle.tmf_model.specs.declared.script.Step.{Step}
 use Rattle.tmf_model.specs.declared.script.Transaction.{Transaction}
 use Rattle.tmf_model.specs.declared.transid.Transid.{Transid}
-use Rattle.run_outcomes.specs.Told.{Account, IsAttemptTold, IsHolder, IsTold}
+use Rattle.run_outcomes.specs.Moves.{HasRaised, dump_turn, start_move}
+use Rattle.run_outcomes.specs.Told.{Account, IsAttemptTold, IsHolder, IsTold, IsTurnedByOther}
 use Rattle.run_outcomes.specs.declared.outcome.Outcome.{Outcome}
 use Rattle.run_outcomes.specs.declared.outcome.Told.TheVariants.{Busy, Dumping}
 use Rattle.run_outcomes.proofs.Example.{one_put, put}
@@ -85,6 +86,51 @@ not_told_elsewhere told =
 -- nor where it was turned away twice.
 pub not_told_twice : IsTold (run_of dumps ((16, turn) ∷ turned)) (dumping 1) → ⊥
 not_told_twice told = (let many : 2 ≡ 1 = ap length (dump_alone ((16, turn) ∷ turned) 1 told).1 in omega (arith, many))
+
+-- The dump that it was turned away from is that of the first item,
+pub turned_by_other : IsTurnedByOther turned 1 v
+turned_by_other = record {
+  front = (16, OfDisc (Start 1 1 t)) ∷ [];
+  rest = [];
+  stands = refl;
+  item = t;
+  other = λ same. omega (arith, same);
+  number = 1;
+  start = 1;
+  begun = inl refl;
+  unended = λ raised. ⊎_elim (λ e. absurd (cc (event_of e))) (λ none. none) raised.1;
+}
+
+-- and none that was ended in front of the turn.
+abbrev ended : Log
+ended = (16, OfDisc (Start 1 1 t)) ∷ (16, OfDisc (Raise 1 None)) ∷ (16, turn) ∷ []
+
+not_by_this : (front rest : Log) (item : Transid) (number start : ℕ) → ended ≡ front ++ dump_turn 1 v ∷ rest → Among front (start_move 1 item number start) → (HasRaised front 1 number → ⊥) → ⊥
+not_by_this [] rest item number start stands begun unended = begun
+not_by_this (x ∷ []) rest item number start stands begun unended =
+    let second : (16, OfDisc (Raise 1 None)) ≡ dump_turn 1 v = cc (stands) in
+    absurd (cc (event_of second))
+not_by_this (x ∷ y ∷ more) rest item number start stands begun unended =
+    let first : (16, OfDisc (Start 1 1 t)) ≡ x = cc (stands) in
+    let second : (16, OfDisc (Raise 1 None)) ≡ y = cc (stands) in
+    ⊎_elim
+    (λ (is : x ≡ start_move 1 item number start).
+    let both : OfDisc (Start 1 1 t) ≡ OfDisc (Start number start item) = event_of (first ∙ is) in
+    let named : 1 ≡ number = cc (both) in
+    unended (None, inr (inl (sym second ∙ ap (λ (n : ℕ). (16, OfDisc (Raise n None))) named))))
+    (λ (later : Among (y ∷ more) (start_move 1 item number start)). ⊎_elim
+    (λ (is : y ≡ start_move 1 item number start). absurd (cc (event_of (second ∙ is))))
+    (λ (last : Among more (start_move 1 item number start)). in_none more last stands)
+    later)
+    begun
+  where
+    in_none : (l : Log) → Among l (start_move 1 item number start) → ended ≡ x ∷ y ∷ l ++ dump_turn 1 v ∷ rest → ⊥
+    in_none [] among same = among
+    in_none (z ∷ []) among same = absurd (cc (same))
+    in_none (z ∷ w ∷ l) among same = absurd (cc (same))
+
+pub not_by_an_ended_one : IsTurnedByOther ended 1 v → ⊥
+not_by_an_ended_one told = not_by_this told.front told.rest told.item told.number told.start told.stands told.begun told.unended
 
 -- A KEY THAT IS HELD
 

@@ -17,6 +17,7 @@ use Rattle.node_machine.specs.Same.{Among, IsBefore}
 use Rattle.node_machine.specs.declared.event.WorkerEvent.{WorkerEvent}
 use Rattle.tmf_model.specs.declared.transid.Transid.{Transid}
 use Rattle.run_outcomes.specs.Between.{HasNone, IsEventOf, MayBeNext}
+use Rattle.run_outcomes.specs.Dumps.{EndsItsDumps}
 use Rattle.run_outcomes.specs.Knowing.{most_tokens}
 use Rattle.run_outcomes.specs.Reach.{KnowsActsAndMoves, Reach}
 use Rattle.run_outcomes.specs.Run.{account_of}
@@ -54,6 +55,7 @@ pub record HasComeTo (opening : List PartState) (found : Found) (account : Log �
   pub acts_of_it : acts_by outcome.tx acts ≡ acts
   pub moves_of_it : moves_by outcome.tx moves ≡ moves
   pub told : IsToldBehind opening found account new.seat outcome acts moves
+  pub dumps : EndsItsDumps old.seat.seen new.seat.seen moves outcome
 
 -- Then it is a worker with that outcome more.
 abbrev pub JoinedLaw : {D : Type 0} → disk.Ghosts D → Type 0

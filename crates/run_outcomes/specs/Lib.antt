@@ -3,6 +3,7 @@ pub mod Between
 pub mod Concerned
 pub mod Counted
 pub mod Devices
+pub mod Dumps
 pub mod Ends
 pub mod Found
 pub mod Joined

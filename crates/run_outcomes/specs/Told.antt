@@ -17,8 +17,6 @@ use Rattle.trail_files.specs.declared.monitor_record.MonitorRecord.TheVariants.{
 use Rattle.node_machine.specs.declared.event.By.TheVariants.{Attempt}
 use Rattle.node_machine.specs.declared.event.Cause.{Cause}
 use Rattle.node_machine.specs.declared.event.Cause.TheVariants as cause
-use Rattle.node_machine.specs.declared.event.DiscEvent.TheVariants.{Turn}
-use Rattle.node_machine.specs.declared.event.Event.TheVariants.{OfDisc}
 use Rattle.node_machine.specs.Acts.{actor, acts_by}
 use Rattle.node_machine.specs.declared.event.Event.{Event}
 use Rattle.node_machine.specs.declared.event.WorkerEvent.TheVariants.{End}
@@ -27,7 +25,7 @@ use Rattle.node_machine.specs.Opening.{disc_part}
 use Rattle.node_machine.specs.Same.{Among}
 use Rattle.run_outcomes.specs.Concerned.{attempt_parts, control_parts, dump_parts, volumes_of_steps}
 use Rattle.run_outcomes.specs.Devices.{devices, monitor_device, part_of_device, volume_device}
-use Rattle.run_outcomes.specs.Moves.{HasMade, IsCutShort, IsUnmade, low_move, start_move}
+use Rattle.run_outcomes.specs.Moves.{HasMade, HasRaised, IsCutShort, IsUnmade, dump_turn, low_move, start_move}
 use Rattle.node_machine.specs.Moves.{mover}
 use Rattle.run_outcomes.specs.declared.outcome.Hang.{Hang}
 use Rattle.run_outcomes.specs.declared.outcome.Hang.TheVariants as hang
@@ -174,7 +172,7 @@ IsDumpTold a t volume _ = ⊥
 
 -- the acts of a control point or a dump of a volume: it was turned away there once where it tells of another dump, and has no other act
 abbrev pub item_acts : ℕ → Transid → Told → Log
-item_acts volume t (Dumping named) = (disc_part volume, OfDisc (Turn t cause.Dumping)) ∷ []
+item_acts volume t (Dumping named) = dump_turn volume t ∷ []
 item_acts volume t _ = []
 
 -- The outcome is of an attempt of the run at a transaction, of a control point or of a dump, and the history has what it tells. For a control point or a dump no transaction begins.
@@ -221,6 +219,18 @@ pub record IsOutcomeTold (a : Account) (outcome : Outcome) : Type 0 where
   -- whatever it tells, an attempt that has begun is ended, unless it tells that it may hold on
   pub ended : HasBegun a.log outcome.tx → MayHold outcome.told ⊎ IsEnded a outcome.tx outcome.told
 
+-- Where the item was turned away from a dump of this volume, one for an item of another worker had been begun there and not ended.
+pub record IsTurnedByOther (log : Log) (volume : ℕ) (t : Transid) : Type 0 where
+  pub front : Log
+  pub rest : Log
+  pub stands : log ≡ front ++ dump_turn volume t ∷ rest
+  pub item : Transid
+  pub other : item.worker ≢ t.worker
+  pub number : ℕ
+  pub start : ℕ
+  pub begun : Among front (start_move volume item number start)
+  pub unended : HasRaised front volume number → ⊥
+
 -- The history has, for each outcome, what it tells; and nothing of any other attempt.
 pub record AreTold (a : Account) (outcomes : List Outcome) : Type 0 where
   pub each : (outcome : Outcome) → Among outcomes outcome → IsOutcomeTold a outcome
@@ -230,6 +240,8 @@ pub record AreTold (a : Account) (outcomes : List Outcome) : Type 0 where
   pub busy : (outcome : Outcome) (transaction : Transaction) (file : ℕ) (key : List ℕ) (holder : Transid) → Among outcomes outcome → outcome.told ≡ Busy file key holder
       → script_transaction a.phase a.epoch outcome.tx ≡ Some transaction → (turned : IsTurnedOn a.log outcome.tx transaction.steps file key (busy_cause holder))
       → IsHolder a.phase a.epoch outcome.tx holder turned.step
+  -- the dump that an item was turned away from is one for an item of another worker
+  pub dumping : (outcome : Outcome) (volume : ℕ) → Among outcomes outcome → outcome.told ≡ Dumping volume → IsTurnedByOther a.log volume outcome.tx
 
 -- it tells that its commit stands, or may stand
 abbrev pub MayBeCommitted : Told → Type 0

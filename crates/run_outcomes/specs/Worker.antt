@@ -16,6 +16,7 @@ use Rattle.node_machine.specs.declared.event.WorkerEvent.{WorkerEvent}
 use Rattle.node_machine.specs.declared.event.WorkerEvent.TheVariants.{End}
 use Rattle.tmf_model.specs.declared.transid.Transid.{Transid}
 use Rattle.run_outcomes.specs.Between.{IsEventOf, MayBeNext}
+use Rattle.run_outcomes.specs.Dumps.{HasEndedItsDumps}
 use Rattle.run_outcomes.specs.Knowing.{most_tokens}
 use Rattle.node_machine.specs.Moves.{mover, moves_by}
 use Rattle.run_outcomes.specs.Told.{Account, IsCommitted, IsOutcomeTold, MayBeCommitted}
@@ -52,3 +53,4 @@ pub record IsWorker (opening : List PartState) (found : Found) (account : Log �
   pub theirs : (part : ℕ) (e : Event) (t : Transid) → Among acts (part, e) → actor e ≡ Some t → (outcome : Outcome) × Among outcomes outcome × (outcome.tx ≡ t)
   pub moved : (part : ℕ) (e : Event) (t : Transid) → Among moves (part, e) → mover e ≡ Some t → (outcome : Outcome) × Among outcomes outcome × (outcome.tx ≡ t)
   pub told : (outcome : Outcome) → Among outcomes outcome → IsToldBehind opening found account at.seat outcome (acts_by outcome.tx acts) (moves_by outcome.tx moves)
+  pub dumps : HasEndedItsDumps at.seat.seen moves outcomes

@@ -51,6 +51,7 @@ idle_worker kind found phase devices law worker within = record {
   theirs = λ part e t among its. absurd among;
   moved = λ part e t among its. absurd among;
   told = λ outcome among. absurd among;
+  dumps = record { ended = λ volume t number start among. absurd among; apart = λ outcome volume among is. absurd among };
 }
 
 module _ {J : Type 0} where

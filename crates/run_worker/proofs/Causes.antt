@@ -53,10 +53,11 @@ account_with broken phase found log =
     let states = states_after node (opening_parts found) log in
     record { config = found.config; phase = phase; epoch = found.epoch; log = log; opened = found.places; landed = recorded (monitor_events states); next = next_at states; broken = broken }
 
--- where it tells of damage, the bytes break that rule
+-- where it tells of damage, the bytes break that rule; and it tells of no dump that is under way
 abbrev pub IsBrokenWhere : (ℕ → Damage → Type 0) → Told → Type 0
 IsBrokenWhere broken (told.Damaged device damage) = broken device damage
 IsBrokenWhere broken (told.Hanging (hang.Damaged device damage)) = broken device damage
+IsBrokenWhere broken (told.Dumping volume) = ⊥
 IsBrokenWhere broken _ = Unit {0}
 
 -- PARTS OF VOLUMES

@@ -22,6 +22,7 @@ use Rattle.run_outcomes.specs.Reach.{HasActed, KnowsActsAndMoves, Reach}
 use Rattle.run_outcomes.specs.Told.{Account}
 use Rattle.run_outcomes.specs.Worker.{IsToldBehind}
 use Rattle.run_outcomes.specs.declared.outcome.Told.{Told}
+use Rattle.run_outcomes.specs.declared.outcome.Told.TheVariants.{Dumping}
 use Rattle.run_worker.specs.Tried.{IsBetween}
 use Rattle.run_worker.proofs.Begins.{entry_event, unmapped}
 use Rattle.run_worker.proofs.Had.{Had, of_worker}
@@ -59,8 +60,8 @@ module _ (t : Transid) (old new : Sight Event) (more : List WorkerEvent) (part :
 -- The worker may go on before and behind the attempt, has had these events of it alone, and knows these acts of it, by which it is told.
 pub come_to : (opening : List PartState) (found : Found) (account : Log → Account) (t last : Transid) (tells : Told) (old new : Reach) (more : List WorkerEvent) → IsBetween opening old.seat t.worker t.epoch last
     → IsBetween opening new.seat t.worker t.epoch t → Had old.seat new.seat more → ((e : WorkerEvent) → Among more e → IsEventOf t e) → (acts : Log) → HasActed t.worker old new acts → acts_by t acts ≡ acts → length acts ≤ most_tokens
-    → IsToldBehind opening found account new.seat (record { tx = t; told = tells }) acts [] → HasComeTo opening found account (record { tx = t; told = tells }) old new acts []
-come_to opening found account t last tells old new more before behind had its acts acted own few told = record {
+    → ((volume : ℕ) → tells ≡ Dumping volume → ⊥) → IsToldBehind opening found account new.seat (record { tx = t; told = tells }) acts [] → HasComeTo opening found account (record { tx = t; told = tells }) old new acts []
+come_to opening found account t last tells old new more before behind had its acts acted own few undumped told = record {
   part = had.part;
   begins = had.begins;
   others = others_kept t old.seat new.seat more before.part had its;
@@ -70,4 +71,11 @@ come_to opening found account t last tells old new more before behind had its ac
   acts_of_it = own;
   moves_of_it = refl;
   told = told;
+  dumps = record {
+    more = had.begins.0;
+    seen = sym had.begins.1;
+    begun = λ volume u number start among. absurd among;
+    ended = λ volume u number start among. absurd among;
+    turned = λ volume is. absurd (undumped volume is);
+  };
 }

@@ -606,7 +606,7 @@ module _ (law : EventsLaw) (found : Found) (phase : Phase) (broken : ℕ → Dam
           come = come_to opening found account t run.next.0 tells old new ((Begin t ∷ (enlists t all.discs ++ all.first)) ++ all.last ∷ []) between next all.had
               (all_its t all.discs all.first all.last all.first_is all.closes) gone.acts
               (subst (λ (l : Log). HasActed t.worker old new l) (append-nil gone.acts) (then_ t.worker old end_reach new gone.acts [] (then_ t.worker old first_reach end_reach [] gone.acts before gone.acted) after))
-              (acts_its r.begun.seat end.seat gone.acts gone.are) (omega (arith, most, limit)) so.0;
+              (acts_its r.begun.seat end.seat gone.acts gone.are) (omega (arith, most, limit)) (λ volume is. subst (λ (x : Told). IsBrokenWhere broken x) is bad) so.0;
           next = next;
           let_go = so.1;
         }
@@ -619,6 +619,7 @@ attempt_tells law holders still then_ go_on kind found phase devices t transacti
     record {
       acts = [];
       come = come_to (opening_parts found) found (account_with broken phase found) t run.next.0 tells old new [] run.next.2 next had (λ e among. absurd among) [] (still t.worker old new none.0.grown.0.begins none.1) refl (omega arith)
+          (λ volume is. absurd (let both : told.Spent none.0.part ≡ told.Dumping volume = sym none.0.tells_is ∙ is in cc (both)))
           (not_begun law found phase broken t transaction old new tells run had none.0.part none.0.tells_is none.0.why.which none.0.why.spent);
       next = next;
       let_go = λ free. none_let_go law found phase broken t transaction old new tells run had;

@@ -112,6 +112,13 @@ module _ {D : Type 0} (kind : disk.Ghosts D) (found : Found) (phase : Phase) (de
       acts_of_it = refl;
       moves_of_it = refl;
       told = told;
+      dumps = record {
+        more = [];
+        seen = sym (append-nil at.seat.seen);
+        begun = λ volume u number start among. absurd among;
+        ended = λ volume u number start among. absurd among;
+        turned = λ volume is. absurd (cc (is));
+      };
     }
 
     pub skipped : JoinedLaw kind → IsWorker opening found account worker at (acts ++ []) (moves ++ []) (outcomes ++ outcome_of t Skipped ∷ [])

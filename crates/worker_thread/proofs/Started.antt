@@ -40,6 +40,7 @@ module _ {D : Type 0} (kind : disk.Ghosts D) (found : Found) (phase : Phase) (de
     theirs = λ part e t among its. absurd among;
     moved = λ part e t among its. absurd among;
     told = λ outcome among. absurd among;
+    dumps = record { ended = λ volume t number start among. absurd among; apart = λ outcome volume among is. absurd among };
   }
 
   begins : IsWorking kind found phase devices worker 1 at []

@@ -13,7 +13,7 @@ pub returns-clause-within : goal.returns-clause-within
 returns-clause-within g c = within_law g.D.Disk
 
 pub returns-clause-told : goal.returns-clause-told
-returns-clause-told g c = told_law c.holder_law.ensures g.D.Disk
+returns-clause-told g c = told_law c.events_law.ensures c.holder_law.ensures g.D.Disk
 
 pub returns-clause-records : goal.returns-clause-records
 returns-clause-records g c = records_law c.events_law.ensures g.D.Disk
