@@ -37,7 +37,7 @@ use Rattle.node_machine.specs.Same.{Among}
 use Rattle.run_outcomes.specs.Devices.{devices, fuse_kind, told_by}
 use Rattle.run_outcomes.specs.Ends.{monitor_events, monitor_events_in}
 use Rattle.run_outcomes.specs.Found.{IsFoundOver}
-use Rattle.run_outcomes.specs.Run.{account_of}
+use Rattle.run_outcomes.specs.Run.{HasRun, account_of}
 use Rattle.run_outcomes.specs.Shows.{ShowsDevice}
 use Rattle.run_outcomes.specs.Told.{Account, AreTold, IsRecordOf}
 use Rattle.run_outcomes.specs.declared.outcome.Outcome.{Outcome}
@@ -123,6 +123,10 @@ module _ {D : Type 0} (kind : disk.Ghosts D) (phase : Phase) (old new : List (Fu
     pub told_of : AreTold (account_of (fuse_kind kind) config phase epoch (λ number. slice_get old number) found log) outcomes
     pub shown : (images : ℕ → Held) → AreImages kind.held new images → (device : ℕ) → device < devices → ShowsDevice config told states (images device) device
 
+  -- the run has made that of the node, with the records that its history has landed and offered
+  abbrev pub HasMadeSo : Config → ℕ → Type 0
+  HasMadeSo config epoch = (made : HasMade phase epoch kind.held config list map_ outcomes old new) × (made.landed ≡ landed) × (made.offered ≡ offered)
+
   module _ (crash_law : CrashLaw) (done_law : DoneLaw) (reads_law : ReadsLaw) (all_told : AllTold told held) (history : IsHistory node (opening_parts found) log)
       (records : (item : MonitorRecord) → Among (landed ++ offered) item → IsRecordOf outcomes item) (given : IsGiven found.config found.epoch) where
     abbrev account : Account
@@ -205,22 +209,30 @@ module _ {D : Type 0} (kind : disk.Ghosts D) (phase : Phase) (old new : List (Fu
           };
         }
 
-    made : HasMade phase found.epoch kind.held found.config list map_ outcomes old new
-    made = record {
-      landed = landed;
-      offered = offered;
-      records = λ item there. records item (among (landed ++ offered) item there);
-      committed = committed;
-      stands = stands;
-      lost = lost;
-    }
+    made : HasMadeSo found.config found.epoch
+    made = (
+      record {
+        landed = landed;
+        offered = offered;
+        records = λ item there. records item (among (landed ++ offered) item there);
+        committed = committed;
+        stands = stands;
+        lost = lost;
+      },
+      refl,
+      refl,
+    )
 
 -- what is so of a run gives this, whatever its configuration and epoch
 abbrev Makes : {D : Type 0} → disk.Ghosts D → Phase → (old new : List (Fuse D)) → List Outcome → List MonitorRecord → RecordMap → Found → Log → Config → ℕ → Type 0
-Makes kind phase old new outcomes list map_ found log config epoch = IsGiven kind phase old new outcomes list map_ found log config epoch → HasMade phase epoch kind.held config list map_ outcomes old new
+Makes kind phase old new outcomes list map_ found log config epoch = IsGiven kind phase old new outcomes list map_ found log config epoch → HasMadeSo kind phase old new outcomes list map_ found log config epoch
 
-pub stands_law : CrashLaw → DoneLaw → ReadsLaw → {D : Type 0} (kind : disk.Ghosts D) → StandsLaw kind
-stands_law crash_law done_law reads_law kind = λ config phase epoch old new outcomes list map_ valid old_count new_count telling up ran.
+-- What a run has made of a node that is up, with the records of its history.
+pub made_by : CrashLaw → DoneLaw → ReadsLaw → {D : Type 0} (kind : disk.Ghosts D)
+    (config : Config) (phase : Phase) (epoch : ℕ) (old new : List (Fuse D)) (outcomes : List Outcome) (list : List MonitorRecord) (map_ : RecordMap)
+    → IsValidConfig config → length old ≡ devices → length new ≡ devices → DevicesTell kind.tells old → IsNodeUp config (held_at kind.held old) list map_ epoch
+    → (ran : HasRun (fuse_kind kind) config phase epoch old new outcomes) → HasMadeSo kind phase old new outcomes list map_ ran.found ran.log config epoch
+made_by crash_law done_law reads_law kind config phase epoch old new outcomes list map_ valid old_count new_count telling up ran =
     let found = ran.found in
     let log = ran.log in
     let over = ran.opens in
@@ -235,3 +247,7 @@ stands_law crash_law done_law reads_law kind = λ config phase epoch old new out
       told_of = ran.told;
       shown = λ images are device lt. (let at = some_at new device (omega (arith, lt, new_count)) in ran.shown device at.0 (images device) at.1 (are device at.0 at.1));
     })
+
+pub stands_law : CrashLaw → DoneLaw → ReadsLaw → {D : Type 0} (kind : disk.Ghosts D) → StandsLaw kind
+stands_law crash_law done_law reads_law kind = λ config phase epoch old new outcomes list map_ valid old_count new_count telling up ran.
+    (made_by crash_law done_law reads_law kind config phase epoch old new outcomes list map_ valid old_count new_count telling up ran).0

@@ -93,6 +93,7 @@ module _ (a : Account) (broken : ℕ → Damage → Type 0) (more : (device : �
     begun = told.begun;
     done = told.done;
     busy = told.busy;
+    dumping = told.dumping;
   }
 
 -- DEVICES THAT ALL TELL WHAT THEY HOLD

@@ -1,5 +1,5 @@
 -- Each outcome of the one worker before the last that it carries out ends as its item does on the map that those before it leave.
-use Rattle.std.specs.Prelude.{◌≡◌, ℕ, zero, suc, ◌+◌, ◌<◌, ◌≤◌, List, [], ◌∷◌, ◌++◌, length, map, take, drop, Option, Some, Ok, option_and_then, slice_get}
+use Rattle.std.specs.Prelude.{◌≡◌, ◌⊎◌, ℕ, zero, suc, ◌+◌, ◌<◌, ◌≤◌, List, [], ◌∷◌, ◌++◌, length, map, take, drop, Option, Some, Ok, option_and_then, slice_get}
 use Rattle.std.specs.List.{cons_option}
 use Rattle.std.proofs.Common.{refl, ap, sym, ◌∙◌, subst, arith, append_assoc, append-nil, ⊎_elim, inl, inr}
 use Rattle.std.proofs.lemmas.List.Elements.{filter_map-append}
@@ -28,25 +28,25 @@ use Rattle.node_machine.specs.Law.{AreServed, Deed, IsOpening, after_list, deeds
 use Rattle.node_machine.specs.Law.Deed.{Changed, Locked, Saw}
 use Rattle.node_machine.specs.Live.{LiveLaw, after_deeds}
 use Rattle.node_machine.specs.Monitor.{ended_by, offered_car, recorded}
-use Rattle.node_machine.specs.Opening.{Found}
+use Rattle.node_machine.specs.Opening.{Found, disc_part}
 use Rattle.node_machine.specs.Reads.{ReadsLaw}
 use Rattle.node_machine.specs.Same.{Among}
 use Rattle.node_machine.specs.SameLaws.{among_left, among_right}
 use Rattle.node_machine.specs.declared.event.Cause.{Cause}
 use Rattle.node_machine.specs.declared.event.Cause.TheVariants as cause
-use Rattle.node_machine.specs.declared.event.DiscEvent.TheVariants.{Turn}
+use Rattle.node_machine.specs.declared.event.DiscEvent.TheVariants.{Start as StartDump, Turn}
 use Rattle.node_machine.specs.declared.event.Event.{Event}
 use Rattle.node_machine.specs.declared.event.Event.TheVariants.{OfDisc}
 use Rattle.run_outcomes.specs.Outcomes.{first_attempt}
-use Rattle.run_outcomes.specs.Told.{IsTold, item_of}
+use Rattle.run_outcomes.specs.Told.{IsControlTold, IsDumpTold, IsTold, item_of}
 use Rattle.run_outcomes.specs.declared.outcome.Outcome.{Outcome}
 use Rattle.run_outcomes.specs.declared.outcome.Told.{Told}
-use Rattle.run_outcomes.specs.declared.outcome.Told.TheVariants.{Aborted, Committed, Controlled, Dumped, Dumping, Full, Refused}
+use Rattle.run_outcomes.specs.declared.outcome.Told.TheVariants.{Aborted, Committed, Controlled, Damaged, Dumped, Dumping, Failed, Full, Memory, Refused, Skipped, Spent}
 use Rattle.single_law.proofs.Acting.{IsActing}
 use Rattle.single_law.proofs.Alone.{AreFrom, of_item}
 use Rattle.single_law.proofs.Folds.{same_meaning}
 use Rattle.single_law.proofs.Given.{IsGiven, WasTurned, account, among_front, landed, list_around, offered, was_turned}
-use Rattle.single_law.proofs.Landed.{IsItemTold, IsOwnEnd, all_are, all_records, at_m, attempt_of, ends_or_item, front_left, going, its, m, row, told_as}
+use Rattle.single_law.proofs.Landed.{IsItemTold, IsOwnEnd, all_are, all_records, at_m, attempt_of, ends_or_item, front_left, going, its, later_from, m, row, told_as}
 use Rattle.single_law.proofs.Last.{turned_last, IsTurnedLast}
 use Rattle.single_law.proofs.Moment.{IsAround, at_mf, comes_to, commit_told, effect_same, is_around, keys_free, left_by, mf, not_yet}
 use Rattle.single_law.proofs.Moments.{next_enabled, not_before}
@@ -98,6 +98,10 @@ item_there (z ∷ xs) (w ∷ ys) (suc n) x count at = item_there xs ys n x (omeg
 
 at_numbered : {T : Type 0} (xs : List T) (n : ℕ) (x y : T) → slice_get xs n ≡ Some x → numbered xs (suc n) ≡ Some y → x ≡ y
 at_numbered xs n x y at is = (let both : Some x ≡ Some y = sym at ∙ is in cc (both))
+
+neither : ⊥ ⊎ ⊥ → ⊥
+neither (inl none) = none
+neither (inr none) = none
 
 -- a record stands in a row once
 row_place : (xs ys : List MonitorRecord) (x : MonitorRecord) (t : Transid) (n : ℕ) → ended_by x ≡ Some t → AreInRow (xs ++ x ∷ ys) → slice_get (xs ++ x ∷ ys) n ≡ Some x → n ≡ length xs
@@ -346,6 +350,10 @@ module _ (law : EventsLaw) (holder_law : HolderLaw) (done_law : DoneLaw) (live_l
     beside : IsAround found.epoch 1 earlier later outcome
     beside = is_around found.epoch 1 earlier later outcome (subst (λ (l : List Outcome). AreFrom found.epoch 1 l) whole (its law phase items outcomes found log broken given).from)
 
+    -- it tells how an attempt ended by itself, or of another item
+    own_or_item : IsOwnEnd law phase items outcomes found log broken given outcome.told ⊎ IsItemTold outcome.told
+    own_or_item = ends_or_item law phase items outcomes found log broken given outcome outcome.told (up_to outcome (among_right earlier (outcome ∷ []) outcome (inl refl))) refl
+
     -- an item that is a transaction is told of by an attempt at it
     item_at : (item : Item) (number : ℕ) → slice_get items number ≡ Some item → outcome.tx ≡ first_attempt found.epoch 1 (suc number) → item_of phase outcome.tx ≡ Some item
     item_at item number at tx =
@@ -375,7 +383,83 @@ module _ (law : EventsLaw) (holder_law : HolderLaw) (done_law : DoneLaw) (live_l
         subst (λ (x : Transaction). IsEnd found.config x from place_of outcome.told) one e.2)
         (λ (item_told : IsItemTold outcome.told).
         absurd (no_item transaction outcome.told (item_at item number at tx ∙ ap (λ (x : Item). Some x) is) item_told (told_as law phase items outcomes found log broken given outcome outcome.told among_outcomes refl).told))
-        (ends_or_item law phase items outcomes found log broken given outcome outcome.told (up_to outcome (among_right earlier (outcome ∷ []) outcome (inl refl))) refl)
+        own_or_item
+
+    -- CONTROL POINTS AND DUMPS
+
+    -- the item that a transaction of the script is
+    transaction_at : (transaction : Transaction) → script_transaction phase found.epoch outcome.tx ≡ Some transaction → item_of phase outcome.tx ≡ Some (TransactionItem transaction)
+    transaction_at transaction is =
+        let of = of_item phase found.epoch items outcome.tx transaction given.one is in
+        ap (λ (w : List (List Item)). option_and_then (λ own. numbered own outcome.tx.ordinal) (numbered w outcome.tx.worker)) given.one
+        ∙ (ap (λ (n : ℕ). option_and_then (λ own. numbered own outcome.tx.ordinal) (numbered (items ∷ []) n)) of.worker ∙ of.item)
+
+    -- an outcome of a control point has what a control point tells, and so of a dump
+    control_told : (volume : ℕ) (how : Told) → item_of phase outcome.tx ≡ Some (Control volume) → IsTold (account phase items outcomes found log broken) (record { tx = outcome.tx; told = how })
+        → IsControlTold (account phase items outcomes found log broken) outcome.tx volume how
+    control_told volume how at (inl is) = (let both : Some (Control volume) ≡ Some (TransactionItem is.0) = sym at ∙ transaction_at is.0 is.1 in let one : Control volume ≡ TransactionItem is.0 = cc (both) in absurd (cc (one)))
+    control_told volume how at (inr (inl is)) =
+        let both : Some (Control is.0) ≡ Some (Control volume) = sym is.1 ∙ at in
+        let item : Control is.0 ≡ Control volume = cc (both) in
+        let one : is.0 ≡ volume = cc (item) in
+        subst (λ (n : ℕ). IsControlTold (account phase items outcomes found log broken) outcome.tx n how) one is.2
+    control_told volume how at (inr (inr is)) = (let both : Some (Control volume) ≡ Some (Dump is.0) = sym at ∙ is.1 in let one : Control volume ≡ Dump is.0 = cc (both) in absurd (cc (one)))
+
+    dump_told : (volume : ℕ) (how : Told) → item_of phase outcome.tx ≡ Some (Dump volume) → IsTold (account phase items outcomes found log broken) (record { tx = outcome.tx; told = how })
+        → IsDumpTold (account phase items outcomes found log broken) outcome.tx volume how
+    dump_told volume how at (inl is) = (let both : Some (Dump volume) ≡ Some (TransactionItem is.0) = sym at ∙ transaction_at is.0 is.1 in let one : Dump volume ≡ TransactionItem is.0 = cc (both) in absurd (cc (one)))
+    dump_told volume how at (inr (inl is)) = (let both : Some (Dump volume) ≡ Some (Control is.0) = sym at ∙ is.1 in let one : Dump volume ≡ Control is.0 = cc (both) in absurd (cc (one)))
+    dump_told volume how at (inr (inr is)) =
+        let both : Some (Dump is.0) ≡ Some (Dump volume) = sym is.1 ∙ at in
+        let item : Dump is.0 ≡ Dump volume = cc (both) in
+        let one : is.0 ≡ volume = cc (item) in
+        subst (λ (n : ℕ). IsDumpTold (account phase items outcomes found log broken) outcome.tx n how) one is.2
+
+    -- no dump was under way: it would be for an item of another worker
+    none_under_way : (volume : ℕ) → outcome.told ≡ Dumping volume → ⊥
+    none_under_way volume is =
+        let by = given.told.dumping outcome volume among_outcomes is in
+        let begun : ℕ × Event = (disc_part volume, OfDisc (StartDump by.number by.start by.item)) in
+        let turned : ℕ × Event = (disc_part volume, OfDisc (Turn outcome.tx cause.Dumping)) in
+        let other = given.told.done (disc_part volume) (OfDisc (StartDump by.number by.start by.item)) by.item
+        (subst (λ (l : Log). Among l begun) (sym by.stands) (among_left by.front (turned ∷ by.rest) begun by.begun)) (inr refl) in
+        by.other (sym (ap (λ (t : Transid). t.worker) other.2) ∙ (of_one other.0 other.1 ∙ sym (of_one outcome among_outcomes)))
+      where
+        of_one : (u : Outcome) → Among outcomes u → u.tx.worker ≡ 1
+        of_one u has = (later_from found.epoch 0 1 outcomes u (omega arith) (its law phase items outcomes found log broken given).from has).1
+
+    -- so a control point is told as made, and a dump as whole
+    is_control : (volume : ℕ) (how : Told) → IsOwnEnd law phase items outcomes found log broken given how ⊎ IsItemTold how → IsControlTold (account phase items outcomes found log broken) outcome.tx volume how
+        → (low : ℕ) × (how ≡ Controlled volume low)
+    is_control volume (Controlled named low) ends is = (low, ap (λ (n : ℕ). Controlled n low) is.0)
+    is_control volume (Failed device) ends is = absurd (neither ends)
+    is_control volume (Spent part) ends is = absurd (neither ends)
+    is_control volume Skipped ends is = absurd (neither ends)
+    is_control volume Memory ends is = absurd (neither ends)
+    is_control volume _ ends is = absurd is
+
+    is_dump : (volume : ℕ) (how : Told) → outcome.told ≡ how → IsOwnEnd law phase items outcomes found log broken given how ⊎ IsItemTold how
+        → IsDumpTold (account phase items outcomes found log broken) outcome.tx volume how → (start : ℕ) × (how ≡ Dumped volume start)
+    is_dump volume (Dumped named start) told ends is = (start, ap (λ (n : ℕ). Dumped n start) is.0)
+    is_dump volume (Dumping named) told ends is = absurd (none_under_way named told)
+    is_dump volume (Failed device) told ends is = absurd (neither ends)
+    is_dump volume (Damaged device damage) told ends is = absurd (neither ends)
+    is_dump volume (Spent part) told ends is = absurd (neither ends)
+    is_dump volume Skipped told ends is = absurd (neither ends)
+    is_dump volume Memory told ends is = absurd (neither ends)
+    is_dump volume _ told ends is = absurd is
+
+    controls : (item : Item) (number volume : ℕ) → slice_get items number ≡ Some item → outcome.tx ≡ first_attempt found.epoch 1 (suc number) → item ≡ Control volume
+        → (low : ℕ) × (outcome.told ≡ Controlled volume low)
+    controls item number volume at tx is =
+        is_control volume outcome.told own_or_item
+        (control_told volume outcome.told (item_at item number at tx ∙ ap (λ (x : Item). Some x) is) (given.told.each outcome among_outcomes).told)
+
+    makes_dump : (item : Item) (number volume : ℕ) → slice_get items number ≡ Some item → outcome.tx ≡ first_attempt found.epoch 1 (suc number) → item ≡ Dump volume
+        → (start : ℕ) × (outcome.told ≡ Dumped volume start)
+    makes_dump item number volume at tx is =
+        is_dump volume outcome.told refl own_or_item
+        (dump_told volume outcome.told (item_at item number at tx ∙ ap (λ (x : Item). Some x) is) (given.told.each outcome among_outcomes).told)
 
   -- THE RUN
 
@@ -388,7 +472,14 @@ module _ (law : EventsLaw) (holder_law : HolderLaw) (done_law : DoneLaw) (live_l
       let count : length earlier ≡ number = take_count outcomes number outcome at in
       let few : length earlier < given.count = omega (arith, count, lt) in
       let tx : outcome.tx ≡ first_attempt found.epoch 1 (suc number) = (beside earlier later outcome whole few).tx ∙ ap (λ (n : ℕ). first_attempt found.epoch 1 n) (omega (arith, count)) in
-      record { item = item.0; is_item = item.1; tx = tx; ends = λ transaction is. ends earlier later outcome whole few item.0 number transaction item.1 tx is }
+      record {
+        item = item.0;
+        is_item = item.1;
+        tx = tx;
+        ends = λ transaction is. ends earlier later outcome whole few item.0 number transaction item.1 tx is;
+        controls = λ volume is. controls earlier later outcome whole few item.0 number volume item.1 tx is;
+        dumps = λ volume is. makes_dump earlier later outcome whole few item.0 number volume item.1 tx is;
+      }
 
   pub have_ended_to : HaveEndedTo found.config phase found.epoch items list map_ outcomes given.count
   have_ended_to = record { each = ended_at }

@@ -1,6 +1,7 @@
 mod Acting
 mod Alone
 mod Changes
+mod Dumps
 mod Ended
 mod Folds
 mod Found
@@ -10,11 +11,10 @@ mod Last
 mod LateRow
 mod Moment
 mod Moments
-mod NoDump
 mod One
+pub mod Positions
 mod Rooms
 mod Rows
 mod Served
 mod Single
-mod Standing
 mod Values

@@ -1,5 +1,5 @@
 -- What is so at a moment of a history: what has happened before it, and who had begun, decided or released by then.
-use Rattle.std.specs.Prelude.{◌≡◌, ◌⊎◌, ℕ, ◌-◌, ◌<◌, ◌==◌, Bool, true, false, cond, if◌then◌else◌, List, [], ◌∷◌, ◌++◌, map, reverse, Some, slice_get}
+use Rattle.std.specs.Prelude.{◌≡◌, ◌⊎◌, ℕ, zero, suc, ◌-◌, ◌<◌, ◌==◌, Bool, true, false, cond, if◌then◌else◌, List, [], ◌∷◌, ◌++◌, Contains, map, reverse, Some, slice_get}
 use Rattle.std.proofs.Common.{refl, ap, sym, ◌∙◌, subst, arith, append_assoc, eq-eqb, eqb-true, ⊎_elim, inl, inr}
 use mathlib.Core.List.{reverse-cons}
 use Rattle.chronicle.specs.Histories.{IsEnabled, IsHistory, IsTrueIn, events_of, states_after}
@@ -55,6 +55,12 @@ module _ {A : Type 0} where
   pub among_map : {B : Type 0} (f : A → B) (xs : List A) (x : A) → Among xs x → Among (map f xs) (f x)
   among_map f [] x has = absurd has
   among_map f (y ∷ xs) x has = ⊎_elim (λ (is : y ≡ x). inl (ap f is)) (λ (rest : Among xs x). inr (among_map f xs x rest)) has
+
+-- what a list contains is among its items
+pub contained : {A : Type 0} (xs : List A) (x : A) → Contains xs x → Among xs x
+contained [] x (k, lt, is) = absurd (omega (arith, lt))
+contained (y ∷ xs) x (zero, lt, is) = inl is
+contained (y ∷ xs) x (suc k, lt, is) = inr (contained xs x (k, omega (arith, lt), is))
 
 among_own : (log : Log) (part : ℕ) (e : Event) → Among log (part, e) → Among (events_of part log) e
 among_own [] part e has = absurd has

@@ -1,4 +1,4 @@
--- An attempt that begins at a map ends in one way, so the outcomes of one worker are one function of its items, the list and the map.
+-- An attempt that begins at a map ends in one way, so the outcomes of one worker are one function of its items, the list and the map, apart from the positions that control points and dumps tell.
 use Rattle.std.specs.Prelude.{◌≡◌, ◌⊎◌, ℕ, zero, suc, ◌+◌, ◌<◌, List, [], ◌∷◌, length, map, take, fold, Option, Some, Result, Ok, Err, slice_get}
 use Rattle.std.proofs.Common.{refl, ap, sym, ◌∙◌, subst, arith, ⊎_elim, inl, inr}
 use Rattle.std.proofs.lemmas.Option.{slice_get_within}
@@ -6,16 +6,24 @@ use Rattle.tmf_model.specs.Effect.{after_step, after_steps, applied, stepped}
 use Rattle.tmf_model.specs.RecordMap.{RecordMap}
 use Rattle.tmf_model.specs.declared.config.Config.{Config}
 use Rattle.tmf_model.specs.declared.script.Close.TheVariants.{Abort as AbortClose, Commit as CommitClose}
+use Rattle.tmf_model.specs.declared.script.Item.{Item}
+use Rattle.tmf_model.specs.declared.script.Item.TheVariants.{Control, Dump, Transaction as TransactionItem}
 use Rattle.tmf_model.specs.declared.script.Op.{Op}
 use Rattle.tmf_model.specs.declared.script.Op.TheVariants.{Add, Del, Lock, Put, Read}
+use Rattle.tmf_model.specs.declared.script.Phase.{Phase}
 use Rattle.tmf_model.specs.declared.script.Reason.{Reason}
 use Rattle.tmf_model.specs.declared.script.Step.{Step}
+use Rattle.tmf_model.specs.declared.script.Transaction.{Transaction}
+use Rattle.trail_files.specs.declared.monitor_record.MonitorRecord.{MonitorRecord}
 use Rattle.node_machine.specs.Disc.{IsPut}
 use Rattle.run_outcomes.specs.declared.outcome.Outcome.{Outcome}
 use Rattle.run_outcomes.specs.declared.outcome.Told.TheVariants.{Aborted, Committed, Full, Refused}
+use Rattle.run_standing.specs.Made.{map_behind}
+use Rattle.single_law.proofs.Positions.{records_same}
 use Rattle.single_law.specs.Ended.{GoesTo, IsEnd, IsFullAt, IsRefusedAt}
 use Rattle.single_law.specs.Left.{map_left, records_left}
-use Rattle.single_law.specs.One.{OneEndLaw, OneRunLaw}
+use Rattle.single_law.specs.One.{AreSameOutcomes, OneEndLaw, OneRunLaw, plain_outcome, without_position}
+use Rattle.single_law.specs.Single.{HasEnded}
 
 -- STEPS
 
@@ -162,32 +170,44 @@ one_end_law config transaction from place _ other one two = absurd one
 
 -- ONE RUN
 
--- lists of one length are the same where each item is that of the other list, behind the same ones
-same_lists : {T : Type 0} (xs ys : List T) → length xs ≡ length ys → ((n : ℕ) (x y : T) → slice_get xs n ≡ Some x → slice_get ys n ≡ Some y → take n xs ≡ take n ys → x ≡ y) → xs ≡ ys
-same_lists [] [] count each = refl
-same_lists [] (y ∷ ys) count each = absurd (omega (arith, count))
-same_lists (x ∷ xs) [] count each = absurd (omega (arith, count))
-same_lists (x ∷ xs) (y ∷ ys) count each =
-    let head : x ≡ y = each zero x y refl refl refl in
-    let tail = same_lists xs ys (omega (arith, count)) (λ n a b at_a at_b same. each (suc n) a b at_a at_b (λ i. head i ∷ same i)) in
+-- what is made of lists of one length is the same where it is of each item, behind the same
+same_maps : {T U : Type 0} (f : T → U) (xs ys : List T) → length xs ≡ length ys
+    → ((n : ℕ) (x y : T) → slice_get xs n ≡ Some x → slice_get ys n ≡ Some y → map f (take n xs) ≡ map f (take n ys) → f x ≡ f y) → map f xs ≡ map f ys
+same_maps f [] [] count each = refl
+same_maps f [] (y ∷ ys) count each = absurd (omega (arith, count))
+same_maps f (x ∷ xs) [] count each = absurd (omega (arith, count))
+same_maps f (x ∷ xs) (y ∷ ys) count each =
+    let head : f x ≡ f y = each zero x y refl refl refl in
+    let tail = same_maps f xs ys (omega (arith, count)) (λ n a b at_a at_b same. each (suc n) a b at_a at_b (λ i. head i ∷ same i)) in
     λ i. head i ∷ tail i
 
+-- of one item two outcomes behind the same ones tell the same
+module _ (config : Config) (phase : Phase) (epoch : ℕ) (items : List Item) (list other_list : List MonitorRecord) (map_ : RecordMap) (count : length list ≡ length other_list) (before other_before : List Outcome)
+    (same : AreSameOutcomes before other_before) (number : ℕ) (x y : Outcome)
+    (first : HasEnded config phase epoch items list map_ before number x) (second : HasEnded config phase epoch items other_list map_ other_before number y) where
+  same_item : second.item ≡ first.item
+  same_item = (let both : Some second.item ≡ Some first.item = sym second.is_item ∙ first.is_item in cc (both))
+
+  same_end : (transaction : Transaction) → first.item ≡ TransactionItem transaction → x.told ≡ y.told
+  same_end transaction is =
+      let records : records_left other_before ≡ records_left before = sym (records_same before other_before same) in
+      let here : IsEnd config transaction (map_left phase epoch before map_) (length list + suc (length (records_left before))) y.told =
+      subst (λ (l : List MonitorRecord). IsEnd config transaction (map_behind phase epoch l map_) (length list + suc (length l)) y.told) records
+      (subst (λ (k : ℕ). IsEnd config transaction (map_left phase epoch other_before map_) (k + suc (length (records_left other_before))) y.told) (sym count) (second.ends transaction (same_item ∙ is))) in
+      one_end_law config transaction (map_left phase epoch before map_) (length list + suc (length (records_left before))) x.told y.told (first.ends transaction is) here
+
+  same_told : (item : Item) → first.item ≡ item → without_position x.told ≡ without_position y.told
+  same_told (TransactionItem transaction) is = ap without_position (same_end transaction is)
+  same_told (Control volume) is = ap without_position (first.controls volume is).1 ∙ sym (ap without_position (second.controls volume (same_item ∙ is)).1)
+  same_told (Dump volume) is = ap without_position (first.dumps volume is).1 ∙ sym (ap without_position (second.dumps volume (same_item ∙ is)).1)
+
+  same_outcome : plain_outcome x ≡ plain_outcome y
+  same_outcome =
+      let tx : x.tx ≡ y.tx = first.tx ∙ sym second.tx in
+      let told = same_told first.item refl in
+      λ i. record { tx = tx i; told = told i }
+
 pub one_run_law : OneRunLaw
-one_run_law config phase epoch items list other_list map_ outcomes other_outcomes transactions count one other =
-    same_lists outcomes other_outcomes (one.count ∙ sym other.count) each
-  where
-    each : (n : ℕ) (x y : Outcome) → slice_get outcomes n ≡ Some x → slice_get other_outcomes n ≡ Some y → take n outcomes ≡ take n other_outcomes → x ≡ y
-    each n x y at_x at_y same =
-        let first = one.each n x at_x in
-        let second = other.each n y at_y in
-        let tx : x.tx ≡ y.tx = first.tx ∙ sym second.tx in
-        let of = transactions n first.item first.is_item in
-        let both : Some second.item ≡ Some first.item = sym second.is_item ∙ first.is_item in
-        let item : second.item ≡ first.item = cc (both) in
-        let one_ends = first.ends of.0 of.1 in
-        let other_ends = second.ends of.0 (item ∙ of.1) in
-        let here : IsEnd config of.0 (map_left phase epoch (take n outcomes) map_) (length list + suc (length (records_left (take n outcomes)))) y.told =
-        subst (λ (l : List Outcome). IsEnd config of.0 (map_left phase epoch l map_) (length list + suc (length (records_left l))) y.told) (sym same)
-        (subst (λ (k : ℕ). IsEnd config of.0 (map_left phase epoch (take n other_outcomes) map_) (k + suc (length (records_left (take n other_outcomes)))) y.told) (sym count) other_ends) in
-        let told = one_end_law config of.0 (map_left phase epoch (take n outcomes) map_) (length list + suc (length (records_left (take n outcomes)))) x.told y.told one_ends here in
-        λ i. record { tx = tx i; told = told i }
+one_run_law config phase epoch items list other_list map_ outcomes other_outcomes count one other =
+    same_maps plain_outcome outcomes other_outcomes (one.count ∙ sym other.count) (λ n x y at_x at_y same.
+    same_outcome config phase epoch items list other_list map_ count (take n outcomes) (take n other_outcomes) same n x y (one.each n x at_x) (other.each n y at_y))

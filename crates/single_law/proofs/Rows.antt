@@ -1,11 +1,16 @@
--- The records of the monitor trail stand in the order of their attempts, in every history.
-use Rattle.std.specs.Prelude.{◌≡◌, ℕ, List, [], ◌∷◌, ◌++◌, Some, slice_get}
-use Rattle.std.proofs.Common.{refl, ap, sym, ◌∙◌, subst, append-nil, ⊎_elim, inl, inr}
+-- The records of the monitor trail stand in the order of their attempts, in every history; and so do those that a run has made.
+use Rattle.std.specs.Prelude.{◌≡◌, ℕ, List, [], ◌∷◌, ◌++◌, Option, Some, slice_get}
+use Rattle.std.proofs.Common.{refl, ap, ap₂, sym, ◌∙◌, subst, append-nil, ⊎_elim, inl, inr}
+use Rattle.chronicle.specs.Histories.{states_after}
+use Rattle.disk_model.specs.declared.disk.Disk as disk
+use Rattle.node_machine.specs.Deeds.{DoneLaw}
+use Rattle.node_machine.specs.Law.{CrashLaw}
 use Rattle.node_machine.specs.Monitor.{AreLater, IsLater, IsRequest, MonitorMay, offered_car, recorded}
 use Rattle.node_machine.specs.Node.{IsAllowed, node, state_with}
 use Rattle.node_machine.specs.Opening.{Found, monitor_at, monitor_part, opening_parts}
 use Rattle.node_machine.specs.Parts.{MonitorPart, PartState}
 use Rattle.node_machine.specs.Parts.PartState.{Disc, Dump, Idle, Monitor, Trail, Worker}
+use Rattle.node_machine.specs.Reads.{ReadsLaw}
 use Rattle.node_machine.specs.Same.{Among}
 use Rattle.node_machine.specs.SameLaws.{among_append, among_left}
 use Rattle.node_machine.specs.declared.event.Event.{Event}
@@ -14,8 +19,11 @@ use Rattle.node_machine.specs.declared.event.MonitorEvent.{MonitorEvent}
 use Rattle.node_machine.specs.declared.event.MonitorEvent.TheVariants.{Failed, Land, Offer}
 use Rattle.node_machine.proofs.Kept.{kept}
 use Rattle.node_machine.proofs.Opened.{opening_monitor}
+use Rattle.run_outcomes.specs.Ends.{monitor_events, monitor_events_in}
+use Rattle.run_standing.proofs.Stands.{made_by}
 use Rattle.trail_files.specs.declared.monitor_record.MonitorRecord.{MonitorRecord}
-use Rattle.single_law.specs.Row.{AreInRow, AreRequests, OrderLaw}
+use Rattle.single_law.proofs.Given.{monitor_there}
+use Rattle.single_law.specs.Row.{AreInRow, AreRequests, OrderLaw, RowLaw}
 
 -- ROWS
 
@@ -96,3 +104,13 @@ begins found q Idle at = tt
 
 pub order_law : OrderLaw
 order_law found log s history at = (let is = kept node (IsOrderedAt found.epoch) (keeps found.epoch) (opening_parts found) log history (begins found) monitor_part (Monitor s) at refl in (is.1, is.2))
+
+-- A RUN
+
+pub row_law : CrashLaw → DoneLaw → ReadsLaw → {D : Type 0} (kind : disk.Ghosts D) → RowLaw kind
+row_law crash_law done_law reads_law kind = λ config phase epoch old new outcomes list map_ valid old_count new_count telling up ran.
+    let made = made_by crash_law done_law reads_law kind config phase epoch old new outcomes list map_ valid old_count new_count telling up ran in
+    let monitor = monitor_there ran.found ran.log in
+    let events : monitor_events (states_after node (opening_parts ran.found) ran.log) ≡ monitor.0.events = ap (λ (o : Option PartState). monitor_events_in o) monitor.1 in
+    let row = (order_law ran.found ran.log monitor.0 ran.history monitor.1).0 in
+    (made.0, subst AreInRow (sym (ap₂ (λ (l o : List MonitorRecord). l ++ o) made.1 made.2 ∙ ap (λ (es : List MonitorEvent). recorded es ++ offered_car es) events)) row)

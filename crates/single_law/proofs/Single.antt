@@ -31,12 +31,11 @@ use Rattle.run_outcomes.specs.Run.{IsBroken, account_of}
 use Rattle.run_outcomes.specs.Told.{AreTold, IsRecordOf}
 use Rattle.run_outcomes.specs.declared.outcome.Outcome.{Outcome}
 use Rattle.run_standing.proofs.Opening.{AllTold, opening, stood}
-use Rattle.run_standing.proofs.Stands.{all_tell}
+use Rattle.run_standing.proofs.Stands.{HasMadeSo, all_tell, made_by}
 use Rattle.run_standing.specs.NodeUp.{IsNodeUp}
 use Rattle.single_law.proofs.Ended.{have_ended, have_ended_to, take_whole}
 use Rattle.single_law.proofs.Given.{IsGiven, front_among, front_number}
 use Rattle.single_law.proofs.Landed.{all_left, landed_left, none_offered, row}
-use Rattle.single_law.proofs.Standing.{HasMadeSo, made_by}
 use Rattle.single_law.specs.Front.{FrontLaw, HaveEndedTo}
 use Rattle.single_law.specs.Row.{AreInRow}
 use Rattle.single_law.specs.Single.{IsRunAlone, SingleLaw}

@@ -14,7 +14,7 @@ use Rattle.trail_files.specs.StandsFor.{Base}
 use Rattle.trail_files.specs.declared.monitor_record.MonitorRecord.{MonitorRecord}
 use Rattle.trail_files.specs.declared.rules.Rules.{Rules}
 use Rattle.node_machine.specs.Deeds.{EventsLaw, Log}
-use Rattle.node_machine.specs.Disc.{IfTold, IsHere, IsNoOther, MayAct, MayTake, TellsChange}
+use Rattle.node_machine.specs.Disc.{OfValues, IsHere, IsNoOther, MayAct, MayTake, TellsChange}
 use Rattle.node_machine.specs.Law.{AreServed, Deed, IsOpening, after_list, deeds_of}
 use Rattle.node_machine.specs.Law.Deed.{Changed, Locked, Saw}
 use Rattle.node_machine.specs.Live.{IsUncommitted, LiveLaw, after_deeds}
@@ -37,8 +37,8 @@ use Rattle.single_law.proofs.Moments.{front_log, next_enabled}
 use Rattle.single_law.proofs.Served.{Agree, IsServedOne, after_deeds-agree, after_deeds-append, deed_in, deeds_append, deeds_step, served_first}
 
 -- what is said of told values is said of those of the entries
-pub of_told : (base : Option (List Entry)) (entries : List Entry) (events : List DiscEvent) (says : RecordMap → Type 0) → base ≡ Some entries → IfTold base events says → says (values_after (map_of entries) events)
-of_told base entries events says is told = subst (λ (b : Option (List Entry)). IfTold b events says) is told
+pub of_told : (base : Option (List Entry)) (entries : List Entry) (events : List DiscEvent) (says : RecordMap → Type 0) → base ≡ Some entries → OfValues base events says → says (values_after (map_of entries) events)
+of_told base entries events says is told = subst (λ (b : Option (List Entry)). OfValues b events says) is told
 
 module _ (law : EventsLaw) (live_law : LiveLaw) (rules : ℕ → Rules) (images : ℕ → Held) (bases dumps : ℕ → Option Base) (list : List MonitorRecord) (map_ : RecordMap) (found : Found)
     (o : IsOpening rules images bases dumps list map_ found) (log : Log) (history : IsHistory node (opening_parts found) log) (t : Transid) (from : RecordMap) where

@@ -1,7 +1,7 @@
+pub mod Dumps
 pub mod Ended
 pub mod Front
 pub mod Left
-pub mod NoDump
 pub mod One
 pub mod Row
 pub mod Single

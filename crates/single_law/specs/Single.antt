@@ -8,13 +8,14 @@ use Rattle.run_outcomes.specs.Devices.{devices, fuse_kind}
 use Rattle.run_outcomes.specs.Outcomes.{first_attempt, is_last}
 use Rattle.run_outcomes.specs.Run.{HasRun}
 use Rattle.run_outcomes.specs.declared.outcome.Outcome.{Outcome}
+use Rattle.run_outcomes.specs.declared.outcome.Told.TheVariants.{Controlled, Dumped}
 use Rattle.run_standing.specs.Made.{HasMade}
 use Rattle.run_standing.specs.NodeUp.{IsNodeUp}
 use Rattle.tmf_model.specs.Config.{IsValidConfig}
 use Rattle.tmf_model.specs.RecordMap.{RecordMap}
 use Rattle.tmf_model.specs.declared.config.Config.{Config}
 use Rattle.tmf_model.specs.declared.script.Item.{Item}
-use Rattle.tmf_model.specs.declared.script.Item.TheVariants.{Transaction as TransactionItem}
+use Rattle.tmf_model.specs.declared.script.Item.TheVariants.{Control, Dump, Transaction as TransactionItem}
 use Rattle.tmf_model.specs.declared.script.Phase.{Phase}
 use Rattle.tmf_model.specs.declared.script.Transaction.{Transaction}
 use Rattle.trail_files.specs.declared.monitor_record.MonitorRecord.{MonitorRecord}
@@ -23,13 +24,15 @@ use Rattle.single_law.specs.Row.{AreInRow}
 use Rattle.single_law.specs.Left.{map_left, records_left}
 
 -- The outcome is of the first attempt at the item with this number, counted from 0. If that is a transaction, it ends as this does on the map that the outcomes before it leave, and its
--- record stands behind theirs.
+-- record stands behind theirs. A control point of a volume is made, and so is a dump: none is under way.
 pub record HasEnded (config : Config) (phase : Phase) (epoch : ℕ) (items : List Item) (list : List MonitorRecord) (map : RecordMap) (before : List Outcome) (number : ℕ) (outcome : Outcome) : Type 0 where
   pub item : Item
   pub is_item : slice_get items number ≡ Some item
   pub tx : outcome.tx ≡ first_attempt epoch 1 (suc number)
   pub ends : (transaction : Transaction) → item ≡ TransactionItem transaction
       → IsEnd config transaction (map_left phase epoch before map) (length list + suc (length (records_left before))) outcome.told
+  pub controls : (volume : ℕ) → item ≡ Control volume → (low : ℕ) × (outcome.told ≡ Controlled volume low)
+  pub dumps : (volume : ℕ) → item ≡ Dump volume → (start : ℕ) × (outcome.told ≡ Dumped volume start)
 
 -- There is one outcome for each item, in their order, and each ends so.
 pub record HaveEnded (config : Config) (phase : Phase) (epoch : ℕ) (items : List Item) (list : List MonitorRecord) (map : RecordMap) (outcomes : List Outcome) : Type 0 where

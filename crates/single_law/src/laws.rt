@@ -1,7 +1,7 @@
-//! What holds of each run: of those that have one worker, of the row of its records, and of those that have transactions alone.
+//! What holds of each run: of those that have one worker, of the row of its records, and of the dumps of its volumes.
 ghost use Rattle.run_standing.specs.Telling.{telling};
+ghost use Rattle.single_law.specs.Dumps.{DumpsLaw};
 ghost use Rattle.single_law.specs.Front.{FrontLaw};
-ghost use Rattle.single_law.specs.NoDump.{NoDumpLaw};
 ghost use Rattle.single_law.specs.One.{OneEndLaw, OneRunLaw};
 ghost use Rattle.single_law.specs.Row.{OrderLaw, RowLaw};
 ghost use Rattle.single_law.specs.Single.{SingleLaw};
@@ -23,12 +23,14 @@ pub fn row_law<D: Disk>()
     reads_law();
 }
 
-/// Behind a run over the devices of a node that is up, of which all items are transactions, a dump device that surely had no dump has none. The same of devices of which no more is
-/// known than what they hold, and their counts.
-pub fn no_dump_law<D: Disk>()
-    ensures ran { NoDumpLaw D.Disk }
-    ensures known { NoDumpLaw (telling D.held D.faults) }
-{}
+/// Behind a run over the devices of a node that is up, a dump device that surely had no dump of its volume has none where no item is one; one that surely had one has one, and so has one
+/// of which an outcome tells that a dump is whole. The same of devices of which no more is known than what they hold, and their counts.
+pub fn dumps_law<D: Disk>()
+    ensures ran { DumpsLaw D.Disk }
+    ensures known { DumpsLaw (telling D.held D.faults) }
+{
+    events_law();
+}
 
 /// Of a run of one worker over the devices of a node that is up, of which no outcome is the last that the worker carries out, each outcome ends as its item does on the map that those
 /// before it leave; and in what the run has made of the node exactly the records that they leave have landed. The same of devices of which no more is known than what they hold, and their
@@ -63,7 +65,8 @@ pub fn one_end_law()
     ensures { OneEndLaw }
 {}
 
-/// Two runs of one worker with the same transactions, over nodes that stand for one map and for lists of one length, have the same outcomes, whatever their histories.
+/// Two runs of one worker with the same items, over nodes that stand for one map and for lists of one length, have the same outcomes apart from the positions that control points and
+/// dumps tell, whatever their histories.
 pub fn one_run_law()
     ensures { OneRunLaw }
 {}

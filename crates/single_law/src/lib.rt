@@ -3,4 +3,4 @@
 
 mod laws;
 
-pub use laws::{front_law, no_dump_law, one_end_law, one_run_law, order_law, row_law, single_law};
+pub use laws::{dumps_law, front_law, one_end_law, one_run_law, order_law, row_law, single_law};

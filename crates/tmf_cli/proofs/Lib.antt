@@ -16,11 +16,13 @@ pub mod Falls
 pub mod Faultless
 pub mod FaultlessLines
 pub mod Headlines
+pub mod ItemDumps
 pub mod Listings
 pub mod Losses
 pub mod Naming
 pub mod OneOutputs
 pub mod Openings
+pub mod PlainLines
 pub mod Playing
 pub mod PrintedCounts
 pub mod Promises

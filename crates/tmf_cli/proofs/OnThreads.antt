@@ -24,12 +24,13 @@ use Rattle.run_standing.specs.Fit.{UndamagedLaw}
 use Rattle.run_standing.specs.Made.{HasMade}
 use Rattle.run_standing.specs.NodeUp.{IsNodeUp}
 use Rattle.run_standing.specs.Telling.{NotRunTellingLaw, TellingLaw}
+use Rattle.single_law.specs.Dumps.{DumpsGoOn, DumpsLaw, IsSurelyDumped}
 use Rattle.single_law.specs.Front.{FrontLaw, HaveEndedTo}
 use Rattle.single_law.specs.Left.{records_left}
-use Rattle.single_law.specs.NoDump.{AllTransactions, NoDumpLaw}
 use Rattle.single_law.specs.Row.{AreInRow, RowLaw}
 use Rattle.single_law.specs.Single.{HaveEnded, SingleLaw}
 use Rattle.tmf_model.specs.declared.config.Config.{Config}
+use Rattle.tmf_model.specs.declared.config.Volume.{Volume}
 use Rattle.tmf_model.specs.declared.script.Action.TheVariants.{Run as RunAction}
 use Rattle.tmf_model.specs.declared.script.Item.{Item}
 use Rattle.tmf_model.specs.declared.script.Phase.{Phase}
@@ -38,6 +39,7 @@ use Rattle.tmf_model.specs.Script.{IsValidPhase}
 use Rattle.tmf_lines.specs.declared.line.ActionKind.TheVariants as asked
 use Rattle.tmf_lines.specs.declared.line.Line.{Line}
 use Rattle.tmf_lines.specs.declared.line.Line.TheVariants.{NotUp}
+use Rattle.trail_files.specs.StandsFor.{IsNumber}
 use Rattle.trail_files.specs.declared.damage.Damage.{Damage}
 use Rattle.trail_files.specs.declared.monitor_record.MonitorRecord.{MonitorRecord}
 use Rattle.trail_files.specs.declared.monitor_record.MonitorRecord.TheVariants.{Start, Commit, Abort}
@@ -49,14 +51,14 @@ use Rattle.tmf_cli.specs.declared.node.NodeState.{NodeState}
 use Rattle.tmf_cli.specs.declared.node.Up.{Up}
 use Rattle.tmf_cli.specs.BetweenActions.{HasBroken, HasDone, IfUp, IsReady, Knows, RestsUp, SameOthers, node_of}
 use Rattle.tmf_cli.specs.Lost.{IsPresent, up_for, workers_name_lost}
-use Rattle.tmf_cli.specs.OutputLaw.{AreExact, AreSettled, AreSettledTo, Candidate, IsRunLine, IsUnrunFor, MakesNoDump, MayStand, OneGoesOn, RunsWhole, down, with_records}
+use Rattle.tmf_cli.specs.OutputLaw.{AreExact, AreSettled, AreSettledTo, Candidate, IsRunLine, IsUnrunFor, MayStand, OneGoesOn, RunsWhole, down, with_records}
 use Rattle.tmf_cli.specs.RunLines.{run_lines}
 use Rattle.tmf_cli.specs.Single.{IsSingle, first_worker, items_of}
 use Rattle.tmf_cli.specs.Threads.{RunsBay}
 use Rattle.tmf_cli.proofs.Acts.{stands-same}
 use Rattle.tmf_cli.proofs.Bays.{held-same, images-same}
 use Rattle.tmf_cli.proofs.Countdowns.{rose-later, switched-falls, switched-holds, switched-tells}
-use Rattle.tmf_cli.proofs.Losses.{lost-alike, lost-both, number-at, number-within, unless-some}
+use Rattle.tmf_cli.proofs.Losses.{lost-alike, lost-both, number-within, unless-some}
 use Rattle.tmf_cli.proofs.Naming.{named-declared, named-unlost}
 use Rattle.tmf_cli.proofs.Resting.{up-ready}
 
@@ -186,7 +188,7 @@ module _ {D : Type 0} (kind : disk.Ghosts D) (config : Config) (phase : Phase) (
       lost-both (images (volume_device v)) (held_at held opened (volume_device v)) both.0 both.1 ∙ ap (λ (h : ℕ → Held). is_lost (h (volume_device v))) same_opened)
       ∙ lost
 
-  module _ (row_law : RowLaw kind) (single_law : SingleLaw kind) (no_dump_law : NoDumpLaw kind) (front_law : FrontLaw kind) (outcomes : List Outcome) (is_ok : result ≡ Ok outcomes) where
+  module _ (row_law : RowLaw kind) (single_law : SingleLaw kind) (dumps_law : DumpsLaw kind) (front_law : FrontLaw kind) (outcomes : List Outcome) (is_ok : result ≡ Ok outcomes) where
     has : HasRun (fuse_kind kind) config phase up.epoch opened closed outcomes
     has = subst (λ (r : Result (List Outcome) PhaseError). MatchResult r (HasRun (fuse_kind kind) config phase up.epoch opened closed) (HasNotRun (fuse_kind kind) config phase up.epoch opened closed)) is_ok bay.told
 
@@ -219,7 +221,7 @@ module _ {D : Type 0} (kind : disk.Ghosts D) (config : Config) (phase : Phase) (
         of [] none = record { each = λ number outcome lt at. absurd (none-some outcome (sym (ap (λ (os : List Outcome). slice_get os number) (no-outcomes none)) ∙ at)) }
         of (items ∷ []) one = subst (λ (is : List Item). HaveEndedTo config phase up.epoch is s.list s.map outcomes count) (sym (ap first_worker one))
             (front_law config phase up.epoch items opened closed outcomes s.list s.map valid bay.opened_count bay.closed_count tell_opened (node-up s on) one has count settled)
-        of (items ∷ other ∷ more) many = let few : length phase.workers ≤ 1 = single.few in let number = ap (λ (workers : List (List Item)). length workers) many in absurd (omega (arith, few, number))
+        of (items ∷ other ∷ more) many = let few : length phase.workers ≤ 1 = single in let number = ap (λ (workers : List (List Item)). length workers) many in absurd (omega (arith, few, number))
 
     -- without a worker nothing is made
     goes-idle : (s : Candidate) → IsNodeUp config (held_at held old) s.list s.map up.epoch → phase.workers ≡ [] → Goes s
@@ -258,7 +260,7 @@ module _ {D : Type 0} (kind : disk.Ghosts D) (config : Config) (phase : Phase) (
         of [] none b is = goes-idle s on none
         of (items ∷ []) one true is = goes-alone s items on one (settled-all outcomes is)
         of (items ∷ []) one false is = goes-anyway s on (λ single settled. unsettled outcomes is settled)
-        of (items ∷ other ∷ more) many b is = goes-anyway s on (λ single settled. let few : length phase.workers ≤ 1 = single.few in let count = ap (λ (workers : List (List Item)). length workers) many in omega (arith, few, count))
+        of (items ∷ other ∷ more) many b is = goes-anyway s on (λ single settled. let few : length phase.workers ≤ 1 = single in let count = ap (λ (workers : List (List Item)). length workers) many in omega (arith, few, count))
 
     goes-on : (known : Option (List Candidate)) → RestsUp held config old up known → (after : Option (List Candidate)) × OneGoesOn config phase up.epoch (held_at held opened) outcomes known after × MayStand held config new after
     goes-on None rests = (None, refl, tt)
@@ -274,14 +276,18 @@ module _ {D : Type 0} (kind : disk.Ghosts D) (config : Config) (phase : Phase) (
               ⊎_elim (λ landed. inl (record { stands = landed; lost = lost_is })) (λ offered. inr (inl (record { stands = offered; lost = lost_is }))) (made.stands images left_closed)),
         )
 
-    -- where the items are transactions, there are no more dumps than before
-    no-dumps : (known : Option (List Candidate)) → RestsUp held config old up known → AllTransactions phase → known ≢ None → MakesNoDump held config old new
-    no-dumps None rests all some none volume declared = absurd (some refl)
-    no-dumps (Some standings) (ready, s, is, on, lost) all some none volume declared =
-        let line = number-at config.volumes volume declared.above declared.below in
-        let before : IsSurelyLost (held_at held opened (dump_device volume)) = subst (λ (h : ℕ → Held). IsSurelyLost (h (dump_device volume))) (sym same_opened) (none volume declared) in
-        let behind = no_dump_law config phase up.epoch opened closed outcomes s.list s.map valid bay.opened_count bay.closed_count tell_opened (node-up s on) has all volume line.0 line.1 before in
-        subst (λ (h : ℕ → Held). IsSurelyLost (h (dump_device volume))) (sym (held-same held closed new (switched-holds closed new bay.off held))) behind
+    -- what it has made of the dumps of each volume
+    dumps-on : (known : Option (List Candidate)) → RestsUp held config old up known → known ≢ None → (volume : ℕ) (line : Volume) → IsNumber config.volumes volume line → DumpsGoOn held config phase outcomes old new volume
+    dumps-on None rests some volume line number = absurd (some refl)
+    dumps-on (Some standings) (ready, s, is, on, lost) some volume line number =
+        let gone = dumps_law config phase up.epoch opened closed outcomes s.list s.map valid bay.opened_count bay.closed_count tell_opened (node-up s on) has volume line number in
+        let before : held_at held opened (dump_device volume) ≡ held_at held old (dump_device volume) = ap (λ (h : ℕ → Held). h (dump_device volume)) same_opened in
+        let behind : held_at held new (dump_device volume) ≡ held_at held closed (dump_device volume) = ap (λ (h : ℕ → Held). h (dump_device volume)) (held-same held closed new (switched-holds closed new bay.off held)) in
+        record {
+          none = λ none lost. subst IsSurelyLost (sym behind) (gone.none none (subst IsSurelyLost (sym before) lost));
+          kept = λ there. subst (IsSurelyDumped config volume) (sym behind) (gone.kept (subst (IsSurelyDumped config volume) (sym before) there));
+          made = λ outcome start among is. subst (IsSurelyDumped config volume) (sym behind) (gone.made outcome start among is);
+        }
 
     module _ (telling_law : TellingLaw kind) where
       abbrev left : (after : Option (List Candidate)) × OneGoesOn config phase up.epoch (held_at held opened) outcomes candidates after × MayStand held config new after
@@ -303,7 +309,7 @@ module _ {D : Type 0} (kind : disk.Ghosts D) (config : Config) (phase : Phase) (
         present = present;
         fit = λ device damage unfit. fit device damage unfit;
         stands = left.1;
-        dumps = λ all some. no-dumps candidates rests all some;
+        dumps = λ some volume line number. dumps-on candidates rests some volume line number;
         printed = printed;
         state = refl;
       }

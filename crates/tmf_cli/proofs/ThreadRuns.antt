@@ -515,7 +515,7 @@ extend-run config phase epoch s outcomes records same attempts each row placed =
 
     -- as soon as there is one, the outcomes of a single run are in order
     in_row : AreOfSingle (record { epoch = epoch; phase = phase } ∷ []) records → (tx : Transid) → Contains records (Commit tx) → AreInOrder outcomes
-    in_row single tx there = workers-order epoch 1 phase.workers outcomes (single (record { epoch = epoch; phase = phase }) tx (0, omega arith, refl) there (of_epoch tx there)).few attempts
+    in_row single tx there = workers-order epoch 1 phase.workers outcomes (single (record { epoch = epoch; phase = phase }) tx (0, omega arith, refl) there (of_epoch tx there)) attempts
 
     place-split : (place count n : ℕ) → place ≡ count + suc n → place - 1 ≡ count + n
     place-split place count n is = omega (arith, is)

@@ -43,7 +43,7 @@ meaning_in (run ∷ runs) tx = if tx.epoch == run.epoch then script_transaction 
 abbrev pub AreOf : List Action → List RunDone → Type 0
 AreOf actions runs = AllByRecursion (λ run. Contains actions (action.Run run.phase)) runs
 
--- each run of which the records have a commit is single: of one worker, and of transactions alone
+-- each run of which the records have a commit is single: of one worker or none
 abbrev pub AreOfSingle : List RunDone → List MonitorRecord → Type 0
 AreOfSingle runs records = (run : RunDone) (tx : Transid) → Contains runs run → Contains records (Commit tx) → tx.epoch ≡ run.epoch → IsSingle run.phase
 

@@ -4,6 +4,7 @@ use Rattle.disk_model.specs.Held.{Held}
 use Rattle.disk_model.specs.Devices.{AreImages, DeviceAt, HoldSame, RoseAt, SameBut, held_at}
 use Rattle.disk_model.specs.declared.fuse.Fuse.{Fuse}
 use Rattle.tmf_model.specs.declared.config.Config.{Config}
+use Rattle.tmf_model.specs.declared.config.Volume.{Volume}
 use Rattle.tmf_model.specs.declared.script.Action.{Action}
 use Rattle.tmf_model.specs.declared.script.Action.TheVariants.{Format, Recover, Run, Lose, Rollforward, List as ListFile}
 use Rattle.tmf_model.specs.declared.script.Phase.{Phase}
@@ -11,7 +12,7 @@ use Rattle.tmf_model.specs.Config.{IsDeclared}
 use Rattle.tmf_model.specs.RecordMap.{RecordMap, empty_map, IsListing}
 use Rattle.trail_files.specs.declared.monitor_record.MonitorRecord.{MonitorRecord}
 use Rattle.trail_files.specs.declared.monitor_record.MonitorRecord.TheVariants.{Start}
-use Rattle.trail_files.specs.StandsFor.{Base}
+use Rattle.trail_files.specs.StandsFor.{Base, IsNumber}
 use Rattle.keyed_file.specs.Volume.{IsLost}
 use Rattle.block_cache.specs.Created.{IsSurelyLost}
 use Rattle.block_cache.specs.Volume.{HasBase}
@@ -34,7 +35,7 @@ use Rattle.volume_recovery.specs.VolumeNode.{StandsWithVolumes, dump_device, vol
 use Rattle.tmf_lines.specs.declared.line.ActionKind.TheVariants as asked
 use Rattle.tmf_lines.specs.declared.line.Line.{Line}
 use Rattle.tmf_lines.specs.declared.line.Line.TheVariants.{Formatted, Removed, LoseFailed, Rolled, RollNotUp, NotLost, NoDump, RollFailed, RollDamaged, NotUp, Failed, Damaged, EpochsSpent, ListNotUp, ListFailed, RunDamaged, RunFailed}
-use Rattle.single_law.specs.NoDump.{AllTransactions}
+use Rattle.single_law.specs.Dumps.{DumpsGoOn, IsSurelyDumped}
 use Rattle.tmf_cli.specs.Single.{IsSingle, items_of}
 use Rattle.tmf_lines.specs.Report.{device_name, file_name_of, format_failure, listed_lines, node_device_name, recovered_lines, volume_name}
 use Rattle.tmf_cli.specs.declared.node.NodeState.{NodeState}
@@ -234,17 +235,14 @@ OneGoesOn config phase epoch held outcomes None after = after ≡ None
 OneGoesOn config phase epoch held outcomes (Some standings) after =
     (s : Candidate) × OneOf (λ t. t ≡ s) standings × IsNodeUp config held s.list s.map epoch × GoesOn config phase epoch outcomes s after
 
--- whatever a crash leaves of the device of any volume's dumps, there is no dump
-abbrev pub HaveNoDumps : {D : Type 0} → (D → Held) → Config → List (Fuse D) → Type 0
-HaveNoDumps held config devices = (volume : ℕ) → IsDeclared config.volumes volume → IsSurelyLost (held_at held devices (dump_device volume))
-
 -- no file of a dump is on any of them
 abbrev pub AreCleared : {D : Type 0} → (D → Held) → Config → List (Fuse D) → Type 0
 AreCleared held config devices = (volume : ℕ) → IsDeclared config.volumes volume → IsCleared (held_at held devices (dump_device volume))
 
--- where there was no dump, there is none
-abbrev pub MakesNoDump : {D : Type 0} → (D → Held) → Config → List (Fuse D) → List (Fuse D) → Type 0
-MakesNoDump held config old new = HaveNoDumps held config old → HaveNoDumps held config new
+-- What an action that makes no dump keeps, of the device of each volume's dumps. One that surely had no dump, whatever a crash leaves of it, has none; and one that surely had one has one.
+pub record KeepsDumps {D : Type 0} (held : D → Held) (config : Config) (old new : List (Fuse D)) : Type 0 where
+  pub none : (volume : ℕ) → IsDeclared config.volumes volume → IsSurelyLost (held_at held old (dump_device volume)) → IsSurelyLost (held_at held new (dump_device volume))
+  pub kept : (volume : ℕ) → IsDeclared config.volumes volume → IsSurelyDumped config volume (held_at held old (dump_device volume)) → IsSurelyDumped config volume (held_at held new (dump_device volume))
 
 -- A run is whole: the node was up, and each volume that an item names was there; no device was unfit; its outcomes are those of one history, which shows what is left of the devices; it prints them, and takes the
 -- node down. The countdown is on in it where it is to be cut off, and is switched off behind it.
@@ -263,8 +261,8 @@ pub record RunsWhole {D : Type 0} (held : D → Held) (faults : D → ℕ) (conf
   pub fit : (device : ℕ) (damage : DamageAt) → IsUnfit (fuse_kind (telling held faults)) config phase up.epoch opened device damage → ⊥
   -- that these records are those of the history follows from the images, which both allow
   pub stands : OneGoesOn config phase up.epoch (held_at held opened) outcomes node.candidates after.candidates
-  -- where it is known what the devices may stand for, transactions alone make no dump
-  pub dumps : AllTransactions phase → node.candidates ≢ None → MakesNoDump held config old new
+  -- what it makes of the dumps of each volume, where it is known what the devices may stand for
+  pub dumps : node.candidates ≢ None → (volume : ℕ) (line : Volume) → IsNumber config.volumes volume line → DumpsGoOn held config phase outcomes old new volume
   pub printed : lines ≡ run_lines config outcomes
   pub state : after.state ≡ down node.state
 
@@ -319,7 +317,7 @@ pub record RecoversWhole {D : Type 0} (held : D → Held) (config : Config) (nod
   pub list : List MonitorRecord
   pub answered : RecoversWithVolumes held config images (Ok (answer_of config images list)) new
   pub left_epoch : next_epoch list ≤ 4294967295
-  pub dumps : MakesNoDump held config old new
+  pub dumps : KeepsDumps held config old new
   pub cleared : AreCleared held config old → AreCleared held config new
   pub printed : lines ≡ recovered_lines config node.state.printed list (lost_among images (length config.volumes)) (next_epoch list)
   pub stands : OneIsLeft node.candidates list (lost_among images (length config.volumes)) after.candidates

@@ -1,16 +1,14 @@
--- Runs of one worker, whose items are transactions.
+-- Runs of one worker.
 use Rattle.std.specs.Prelude.{◌≤◌, List, [], ◌∷◌, length}
 use Rattle.std.specs.List.{AllByRecursion}
-use Rattle.single_law.specs.NoDump.{AllTransactions}
 use Rattle.tmf_model.specs.declared.script.Action.{Action}
 use Rattle.tmf_model.specs.declared.script.Action.TheVariants.{Format, Recover, Run, Lose, Rollforward, List as ListFile}
 use Rattle.tmf_model.specs.declared.script.Item.{Item}
 use Rattle.tmf_model.specs.declared.script.Phase.{Phase}
 
--- A run of one worker or none, whose items are transactions.
-pub record IsSingle (phase : Phase) : Type 0 where
-  pub few : length phase.workers ≤ 1
-  pub items : AllTransactions phase
+-- a run of one worker or none
+abbrev pub IsSingle : Phase → Type 0
+IsSingle phase = length phase.workers ≤ 1
 
 -- the action is no run, or such a one
 abbrev pub IsSingleAction : Action → Type 0

@@ -12,9 +12,11 @@ use disk_model::Disk;
 use single_law::one_run_law;
 use tmf_model::Config;
 
-/// Where no device fails, and no line tells of a limit or of want of memory, the output of a script whose runs are single is one function of it: two outputs of one that formats first are the
-/// same, whatever devices there are and whatever they held. A law over two calls, in the words of their clause `told`; the clause `one_output` of `tmf` says it of one call against any other.
+/// Where no device fails, and no line tells of a limit or of want of memory, the output of a script whose runs are single, with a valid configuration, is one function of it, apart from the positions that control points,
+/// dumps and rollforwards tell: two outputs of one that formats first are otherwise the same, whatever devices there are and whatever they held. A law over two calls, in the words of their
+/// clause `told`; the clause `one_output` of `tmf` says it of one call against any other.
 pub fn one_output_law<D: Disk>(config: &Config)
+    requires valid { IsValidConfig config.now }
     ensures { OneOutput D.held D.faults config.now }
 {
     one_run_law();

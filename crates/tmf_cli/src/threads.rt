@@ -21,7 +21,7 @@ use disk_model::{Bay, Disk};
 use node_run::run_phase;
 use run_outcomes::{Gate, Outcome, PhaseError};
 use run_standing::{telling_law, undamaged_law};
-use single_law::{front_law, no_dump_law, row_law, single_law};
+use single_law::{dumps_law, front_law, row_law, single_law};
 use std::alloc::AllocError;
 use std::sync::Wait;
 use std::thread::Threads;
@@ -98,8 +98,8 @@ pub fn act_threads<R: Threads + Wait + Sync, D: Disk + Send>(
         → IfOk result.0 (λ lines. PrintsRun D.Disk config.now phase.now state bay lines.items (down state) result.1 ⊎ PrintsNoRun D.Disk config.now phase.now state bay lines.items (down state) result.1) }
     ensures keeps { LeavesBay D.Disk config.now (phase.now.kill ≡ None) bay result.1 }
 {
+    dumps_law::<D>();
     front_law::<D>();
-    no_dump_law::<D>();
     row_law::<D>();
     single_law::<D>();
     telling_law::<D>();

@@ -205,7 +205,7 @@ pub fn tmf<R: Threads + Wait + Sync, S: Source, K: Sink, D: Disk + Send>(
     ensures prints_some { is_run (map string_bytes words.now) ≡ true → IsPlayed result.0 → PrintsOfSome D.Disk result.0 bay result.1 (IsTrue (S.tells source.old)) (take read_limit (S.rest source.old)) (IsTrue (K.tells sink.old)) (K.given sink.old) (K.given sink.new) }
 
     // Of a script that formats first, and whose runs are single, where no device fails, the status is 0, and no line tells of a limit or of want of memory, the output is the one that the script determines, whatever
-    // devices were handed in. A run is single that has one worker or none, and transactions alone.
+    // devices were handed in, apart from the positions that control points, dumps and rollforwards tell; where no line tells one, the output is exactly this. A run is single that has one worker or none.
     ensures one_output { (script : Script) → is_run (map string_bytes words.now) ≡ true → IsScriptOf script (take read_limit (S.rest source.old)) → IsTrue (S.tells source.old) → IsTrue (K.tells sink.old)
         → DevicesTell D.tells bay → FormatsFirst script → AreSingle script.actions → NoneRose D.faults bay result.1 → result.0 ≡ 0
         → OnceSwitched (λ opened. IsTheOutput D.held D.faults script opened result.1 (K.given sink.old) (K.given sink.new)) bay }

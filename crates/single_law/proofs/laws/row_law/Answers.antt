@@ -1,4 +1,4 @@
-use Rattle.single_law.proofs.Standing.{row_law}
+use Rattle.single_law.proofs.Rows.{row_law}
 use Rattle.single_law.proofs.laws.row_law.Goals as goal
 
 pub returns : goal.returns

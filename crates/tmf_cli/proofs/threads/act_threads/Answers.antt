@@ -11,11 +11,11 @@ use Rattle.tmf_cli.proofs.threads.act_threads.Goals as goal
 
 pub returns-in-Ok-run_lines-clause-done : goal.returns-in-Ok-run_lines-clause-done
 returns-in-Ok-run_lines-clause-done g c = λ state candidates may tell knows.
-    threads-done g.D.Disk c.args.config.now c.args.phase.now c.args.bay c.run_within-ran.result.1 state c.args.up may c.requires.valid c.requires.phase tell c.run_within-ran.result.0 c.run_within-ran.ensures.ran candidates knows c.row_law.ensures c.single_law.ensures.ran c.no_dump_law.ensures.ran c.front_law.ensures.ran c.in-Ok.outcomes c.in-Ok.is c.telling_law.ensures.ran c.in-Ok-run_lines.lines.items (c.in-Ok-run_lines.ensures ∙ ap (run_lines c.args.config.now) c.as_slice.ensures)
+    threads-done g.D.Disk c.args.config.now c.args.phase.now c.args.bay c.run_within-ran.result.1 state c.args.up may c.requires.valid c.requires.phase tell c.run_within-ran.result.0 c.run_within-ran.ensures.ran candidates knows c.row_law.ensures c.single_law.ensures.ran c.dumps_law.ensures.ran c.front_law.ensures.ran c.in-Ok.outcomes c.in-Ok.is c.telling_law.ensures.ran c.in-Ok-run_lines.lines.items (c.in-Ok-run_lines.ensures ∙ ap (run_lines c.args.config.now) c.as_slice.ensures)
 
 pub returns-in-Ok-clause-broken : goal.returns-in-Ok-clause-broken
 returns-in-Ok-clause-broken g c = λ state candidates may tell knows.
-    threads-unmade g.D.Disk c.args.config.now c.args.phase.now c.args.bay c.run_within-ran.result.1 state c.args.up may c.requires.valid c.requires.phase tell c.run_within-ran.result.0 c.run_within-ran.ensures.ran candidates knows c.row_law.ensures c.single_law.ensures.ran c.no_dump_law.ensures.ran c.front_law.ensures.ran c.in-Ok.outcomes c.in-Ok.is c.telling_law.ensures.ran
+    threads-unmade g.D.Disk c.args.config.now c.args.phase.now c.args.bay c.run_within-ran.result.1 state c.args.up may c.requires.valid c.requires.phase tell c.run_within-ran.result.0 c.run_within-ran.ensures.ran candidates knows c.row_law.ensures c.single_law.ensures.ran c.dumps_law.ensures.ran c.front_law.ensures.ran c.in-Ok.outcomes c.in-Ok.is c.telling_law.ensures.ran
 
 pub returns-in-Ok-run_line-clause-done : goal.returns-in-Ok-run_line-clause-done
 returns-in-Ok-run_line-clause-done g c = λ state candidates may tell knows.

@@ -64,7 +64,7 @@ returns-clause-one_output g c = λ form words is source sink tell first single n
     let code = code-done s (sym c.code-2.ensures ∙ done) in
     once-so (λ opened. Tells g.D.Disk.held g.D.Disk.faults form None c.run_script-status.result.0 opened c.run_script-status.result.1 (IsTrue (g.K.Sink.tells c.args.sink.now)) (g.K.Sink.given c.args.sink.now) (g.K.Sink.given c.run_script-status.new.sink))
     (λ opened. IsTheOutput g.D.Disk.held g.D.Disk.faults form opened new (g.K.Sink.given c.args.sink.now) (g.K.Sink.given c.run_script-status.new.sink)) c.args.bay
-    (λ opened switched told. the_output g.D.Disk.held g.D.Disk.faults c.one_run_law.ensures (g.met.D.Disk g.world.𝓛 g.world.𝓜 g.world.𝓡 ((λ s x. x), (λ x. x), (λ x. x), λ x. x)).sound form opened new (IsTrue (g.K.Sink.tells c.args.sink.now)) (g.K.Sink.given c.args.sink.now) (g.K.Sink.given c.run_script-status.new.sink)
+    (λ opened switched told. the_output g.D.Disk.held g.D.Disk.faults c.one_run_law.ensures (g.met.D.Disk g.world.𝓛 g.world.𝓜 g.world.𝓡 ((λ s x. x), (λ x. x), (λ x. x), λ x. x)).sound form (valid_text _ form is).config opened new (IsTrue (g.K.Sink.tells c.args.sink.now)) (g.K.Sink.given c.args.sink.now) (g.K.Sink.given c.run_script-status.new.sink)
     sink first single (λ device rose. none device (rose-after g.D.Disk.faults c.args.bay opened new device (switched-falls c.args.bay opened switched g.D.Disk.faults) (whole-falls g.D.Disk.held g.D.Disk.faults form None opened new _ _ _ s code told) rose)) s code told)
     (c.run_script-status.ensures.told form None is source tell (record { stands = tt }))
 
